@@ -371,10 +371,11 @@ class Answering(threading.Thread):
     def run(self):
         with self.listener:
             connection, _ = self.listener.accept()
-            with connection:
-                while piece := connection.recv(65536):
-                    self.message += piece
-                connection.sendall(self.answer)
+        # (nobody listens any more when the answer is out)
+        with connection:
+            while piece := connection.recv(65536):
+                self.message += piece
+            connection.sendall(self.answer)
 
 
 def answers(part):

@@ -1,11 +1,14 @@
 """A disk that takes no more, for which a limit on the size of files stands: the part `full` of tests/serve/run.
 
-Uploads are refused, reads are answered, and the file is opened again, up to the count; a file that is lost ends the server."""
+Uploads are refused, reads are answered, and the file is opened again, up to the count, but not for each of uploads in a row; a file
+that is lost ends the server. Where root runs it, a file system of a few MB is full, too, and the server says so."""
 
 import os
 import resource
 import signal
+import subprocess
 import threading
+import time
 
 import host as hosts
 from host import make
@@ -26,16 +29,59 @@ def full(part):
         replies = [server.get(f"/en/main/{name}", HOST) for name in stored]
         part.check("what was stored before is read meanwhile", all(reply and reply[0] == 200 for reply in replies), len(stored))
         told = server.told_at_last().splitlines()
-        part.same("each time the file is opened again", told.count(f"docs_host: the store failed; opening {store} again"), len(refusals))
-        part.same("and served", told.count(f"docs_host: serving {store}, projects: 1"), len(refusals) + 1)
+        openings = told.count(again(store))
+        part.check("the file is opened again, for each at most", 0 < openings <= len(refusals), (openings, len(refusals)))
+        part.same("and served each time", told.count(f"docs_host: serving {store}, projects: 1"), openings + 1)
         part.same("no fault is told", [line for line in told if line.startswith("fault")], [])
         part.same("and nothing ends the server", server.process.poll(), None)
     with part.serve(store) as server:
         replies = [server.get(f"/en/main/{name}", HOST) for name in stored]
         part.check("what was stored before is there", stored and all(reply and reply[0] == 200 for reply in replies), len(stored))
         part.same("and a push works again", server.post("/_/push", HOST, KEY, {"key": "k", "kind": "tag", "ref": "1.0"})[0], 200)
+    in_a_row(part)
     rest_of_count(part)
     lost_file(part)
+    if os.geteuid() == 0:
+        full_file_system(part)
+
+
+def again(store, why=""):
+    return f"docs_host: the store failed{why}; opening {store} again"
+
+
+def in_a_row(part):
+    """Uploads behind a fault cost no opening each; what is no POST, or a second without one, brings the opening."""
+    store = filled(part, "row.docs")
+    with part.serve(store, before=limited_to(2_000_000)) as server:
+        until_refused(server)
+        part.same("nine more in a row are refused", [upload_one(server, f"row{number}.html") for number in range(9)], [REFUSED] * 9)
+        openings = server.told_at_last().splitlines().count(again(store))
+        part.check("and cost no opening each", openings <= 1, openings)
+        part.same("a read behind them is answered", (server.get("/", HOST) or [None])[0], 302)
+        openings = server.told_at_last().splitlines().count(again(store))
+        part.check("over the file, which was opened", openings >= 1, openings)
+        # (the opening took the log in, so that some may have room again)
+        part.same("uploads are refused once more", until_refused(server)[-1], REFUSED)
+        time.sleep(3)
+        part.same("after a while without any the file is open again", server.told_at_last().splitlines().count(again(store)), openings + 1)
+
+
+def full_file_system(part):
+    """A file system of 3 MB, which takes no more: the server says so."""
+    room = part.path("small")
+    os.mkdir(room)
+    if subprocess.run(["mount", "-t", "tmpfs", "-o", "size=3m", "tmpfs", room], stderr=subprocess.DEVNULL).returncode:
+        print("    (no file system may be mounted here)", flush=True)
+        return
+    try:
+        store = filled(part, "small/full.docs")
+        with part.serve(store) as server:
+            part.same("an upload that meets a full file system", until_refused(server)[-1], REFUSED)
+            part.same("a read after it", (server.get("/", HOST) or [None])[0], 302)
+            told = server.told_at_last().splitlines()
+            part.check("the sentence says that the disk is full", again(store, ", since the disk is full") in told, told)
+    finally:
+        subprocess.run(["umount", room], check=True)
 
 
 def filled(part, name):
@@ -96,8 +142,8 @@ def rest_of_count(part):
             part.same("the others are answered", [server.get("/", HOST)[0] for _ in range(more)], [302] * more)
             part.same("it is done, as its file was found good", server.wait(), 0)
             told = server.told().splitlines()
-            again = [f"docs_host: the store failed; opening {store} again", f"docs_host: serving {store}, projects: 1"]
-            part.same("and it told of the fault", told[-2:], again)
+            last = [again(store), f"docs_host: serving {store}, projects: 1"]
+            part.same("and it told of the fault", told[-2:], last)
 
 
 def lost_file(part):

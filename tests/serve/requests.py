@@ -105,9 +105,9 @@ def requests(part):
         told = [line for line in lines if " /en/main/guide/ " in line]
         part.check("--log has the page", told and told[0].split()[:3] == ["200", "GET", "/en/main/guide/"], lines[:6])
         words = told[0].split() if told else []
-        part.same("--log has the host, and no reason of a reply that is good", words[5:6] + words[7:], [HOST, "-"])
+        part.same("--log has the host, and no reason of a reply that is good", words[5:6] + words[7:], [HOST, "-", "-"])
         part.check("--log has the moment", words[6:7] and abs(time.time() - int(words[6])) < 3600, words)
         part.same("--log has the reason of each 400", [line.split()[7] for line in lines if line.startswith("400 ")], ["Form", "NoHost", "NoEnd"])
         part.check("--log has no pass and no key", not any(word in line for line in lines for word in (KEY, "reader-7")))
-        # One line more says what is served, and one is of the client that left.
-        part.same("--log has a line a connection", len(lines), curl.asked + 2)
+        # Two lines more say what is served, and that it begins; and one is of the client that left.
+        part.same("--log has a line a connection", len(lines), curl.asked + 3)

@@ -34,7 +34,7 @@ def slow(part):
             begun = time.monotonic()
             part.same("a request behind a client that sends a byte a second", server.get("/", HOST)[0], 302)
             part.check("it waits a minute at most", time.monotonic() - begun < 65, time.monotonic() - begun)
-        told = [line.split()[0] for line in server.told_at_last().splitlines()[1:]]
+        told = [line.split()[0] for line in server.told_at_last().splitlines()[2:]]
         # (where the system's own buffers take the whole page, it counts as sent)
         deaf_one = "200" if told[3:4] == ["200"] else "Write"
         part.same("--log tells of them", told, ["200", "Read", "302", deaf_one, "302", "Read", "302"])

@@ -1,6 +1,6 @@
 -- What is sent is what is done.
-use Rattle.std.proofs.Common.{◌≡◌, ◌≢◌, ◌∙◌, ℕ, ◌+◌, ◌<◌, ◌==◌, ◌&&◌, Bool, true, false, cond, List, [], ◌∷◌, ◌++◌, length, take, drop, map, append-nil, Option, Some, None, Result, inl, inr, refl, sym, ap, ap₂, subst, arith, option_map}
-use Rattle.std.specs.Prelude.{nat_eq, nat_lt, not, is_some, slice_index, option_and_then, position}
+use Rattle.std.proofs.Common.{◌≡◌, ◌≢◌, ◌∙◌, ℕ, ◌+◌, ◌==◌, ◌&&◌, Bool, true, false, cond, List, [], ◌∷◌, ◌++◌, length, take, drop, map, append-nil, Option, Some, None, Result, inl, inr, refl, sym, ap, ap₂, subst, arith, option_map}
+use Rattle.std.specs.Prelude.{nat_eq, nat_lt, is_some, slice_index, option_and_then, position}
 use Rattle.std.specs.List.{All, flat_map, join_by, position_or_len, slice_split}
 use Rattle.std.specs.Cmp.Lexicographic.{pointwise}
 use Rattle.std.specs.Str.{IsUtf8}
@@ -15,7 +15,7 @@ use Rattle.dh_script.specs.Running.{words_in}
 use Rattle.dh_script.specs.declared.fault.ScriptFault.{ScriptFault}
 use Rattle.dh_world.specs.World.{Text, World}
 use Rattle.dh_control.specs.Answers.{DoesBody, DoesBy, DoesFor, DoesImport, DoesList, DoesMessage, DoesNone, DoesOneLine, DoesRest, DoesSent, DoesSentLine, DoesWords, IsWord, end_of_other}
-use Rattle.dh_control.specs.Messages.{behind, body_of, end_byte, head_of, host_and_list, import_mark, import_message, is_nul, line_mark, line_message, rest_for, version_mark, words_joined, words_mark, words_message}
+use Rattle.dh_control.specs.Messages.{behind, body_of, head_of, host_and_list, import_mark, import_message, is_nul, line_mark, line_message, rest_for, version_mark, words_joined, words_mark, words_message}
 use Rattle.dh_control.specs.declared.end.End.{End}
 use Rattle.dh_control.specs.declared.end.End.TheVariants.{Elsewhere, Unknown}
 use Rattle.dh_control.proofs.Cuts.{length_more}

@@ -17,6 +17,8 @@ use Rattle.dh_script.specs.declared.reasons.Reason.{Reason}
 use Rattle.dh_world.specs.World.{Text, World}
 use Rattle.dh_control.specs.Answers.{AnswersMessage, DoesBody, DoesBy, DoesFor, DoesImport, DoesList, DoesListed, DoesMessage, DoesNone, DoesOne, DoesOneLine, DoesRest, DoesSentLine, DoesWords, HasLastLine, TakesMessage, unlisted}
 use Rattle.dh_control.specs.Ends.{end_of}
+use Rattle.dh_control.specs.Notes.{IsSubjectIn, NotesMessage}
+use Rattle.dh_log.specs.declared.subject.Subject.{Subject}
 use Rattle.dh_control.specs.Messages.{behind, body_of, host_and_list, import_mark, line_mark, rest_for, words_mark}
 use Rattle.dh_control.specs.declared.end.End.{End}
 use Rattle.dh_control.specs.declared.end.End.TheVariants.{Unknown}
@@ -135,6 +137,12 @@ pub message_taken : (moment : ℕ) (file : Text) (left held now : Option Text) (
     → DoesMessage moment file sent before after held now ended → TakesMessage moment file left before after held now ended
 message_taken moment file left held now before after message sent ended read same does =
     inl (message, read, subst (λ m. DoesMessage moment file m before after held now ended) same does)
+
+-- and noted
+pub message_noted : (file : Text) (left : Option Text) (message sent : Text) (noted : Option Subject)
+    → IfSome left (λ input. message ≡ input) → sent ≡ message → IfSome noted (IsSubjectIn file sent) → NotesMessage file left noted
+message_noted file left message sent None read same is = tt
+message_noted file left message sent (Some subject) read same is = (message, read, subst (λ m. IsSubjectIn file m subject) same is)
 
 -- and its end was told
 module _ (held now : Option Text) (ended result : Result End ScriptFault) (tells : HasLastLine held now ended result) where

@@ -1,5 +1,5 @@
 -- What a message does to the world, and what is written for it.
-use Rattle.std.specs.Prelude.{◌≡◌, ◌≢◌, ◌⊎◌, ℕ, ◌==◌, Bool, true, false, if◌then◌else◌, is_err, is_some, List, [], ◌∷◌, ◌++◌, Option, Some, None, Result, Ok, Err, IfSome}
+use Rattle.std.specs.Prelude.{◌≡◌, ◌≢◌, ◌⊎◌, ℕ, ◌==◌, true, false, if◌then◌else◌, is_err, is_some, List, [], ◌∷◌, ◌++◌, Option, Some, None, Result, Ok, Err, IfSome}
 use Rattle.std.specs.Io.KnownBytes.{Appends}
 use Rattle.std.specs.List.{All, slice_split}
 use Rattle.std.specs.Str.{IsUtf8}
@@ -126,6 +126,11 @@ DoesMessage moment file message before after held now result =
 abbrev pub HasLastLine : Option Text → Option Text → Result End ScriptFault → Result End ScriptFault → Type 0
 HasLastLine held now ended result =
     ((result ≡ ended) × Appends held now (end_line ended)) ⊎ (result ≡ Err (Run Write))
+
+-- the last line of what a sink holds tells this end; or it says that this line is lost
+abbrev pub IsEndTold : Option Text → Result End ScriptFault → Type 0
+IsEndTold now result =
+    (printed : Option Text) × (ended : Result End ScriptFault) × HasLastLine printed now ended result
 
 -- the fault says why a source was not read as a message, by what the source had left
 abbrev pub IsMessageUnread : Option Text → Result End ScriptFault → Type 0

@@ -2,3 +2,4 @@ pub mod Answers
 pub mod Cutting
 pub mod Ends
 pub mod Messages
+pub mod Notes

@@ -1,6 +1,6 @@
 //! One message: read, done and answered.
 
-ghost use Rattle.std.specs.Prelude.{◌≡◌, ◌+◌, ◌||◌, true, false, is_err, [], ◌∷◌, ◌++◌, map, string_bytes, IfOk, Some, OnOk};
+ghost use Rattle.std.specs.Prelude.{◌≡◌, ◌+◌, ◌||◌, true, false, is_err, [], ◌∷◌, ◌++◌, map, string_bytes, IfOk, IfSome, Some, None, OnOk};
 ghost use Rattle.std.specs.Io.KnownBytes.{Appends};
 ghost use Rattle.dh_desk.specs.Desk.{WorldGoesBy};
 ghost use Rattle.dh_lines.specs.Lines.{line_in};
@@ -11,18 +11,21 @@ ghost use Rattle.dh_script.specs.Running.{stopped_by_writer, words_in};
 ghost use Rattle.dh_control.specs.Answers as spec;
 ghost use Rattle.dh_control.specs.Answers.{AnswersMessage, DoesBody, DoesImport, DoesList, DoesMessage};
 ghost use Rattle.dh_control.specs.Answers.{DoesOne, DoesOneLine, DoesRest, DoesSent, DoesSentLine};
-ghost use Rattle.dh_control.specs.Answers.{DoesWords, HasLastLine, TakesMessage};
+ghost use Rattle.dh_control.specs.Answers.{DoesWords, HasLastLine, IsEndTold, TakesMessage};
 ghost use Rattle.dh_control.specs.Ends.{end_line, end_of as spec_end_of};
 ghost use Rattle.dh_control.specs.Messages as messages;
+ghost use Rattle.dh_control.specs.Notes.{IsSubjectIn, NotesMessage};
 
 use crate::end::{End, end_name, end_number, end_of};
 use crate::message::{
     IMPORT, LINE, MOST_MESSAGE_BYTES, VERSION, WORDS, behind, body_of, host_and_list, rest_for,
     words_of,
 };
+use crate::note::subject_in;
 use dh_desk::Desk;
 use dh_lines::{LineFault, Order, line_of};
 use dh_lists::{ListFault, read_list};
+use dh_log::Subject;
 use dh_paths::Text;
 use dh_ports::{MOST_READS, READ_SIZE, Sink, Source, put_both};
 use dh_script::{Printed, RunFault, ScriptFault, perform_line, perform_single, read_script};
@@ -326,7 +329,19 @@ fn tell_end<W: Sink>(sink: &mut W, ended: Result<End, ScriptFault>) -> Result<En
     }
 }
 
-/// Reads one message, does what it asks for, and writes what is printed.
+/// What a message asks for, where that is wanted.
+fn note_message(alloc: Global, file: &str, message: &[u8], is_noted: bool) -> Option<Subject>
+    ensures noted { IfSome result (IsSubjectIn file.now message.now) }
+    ensures unnoted { is_noted ≡ false → result ≡ None }
+{
+    if is_noted {
+        subject_in(alloc, file, message)
+    } else {
+        None
+    }
+}
+
+/// Reads one message, does what it asks for, and writes what is printed. Notes what the message asks for, where that is wanted.
 fn take_message<S: Alter, R: Source, W: Sink>(
     alloc: Global,
     desk: &mut Desk<S>,
@@ -334,20 +349,29 @@ fn take_message<S: Alter, R: Source, W: Sink>(
     source: &mut R,
     sink: &mut W,
     now: u64,
+    is_noted: bool,
+    noted: &mut Option<Subject>,
 ) -> Result<End, ScriptFault>
     requires reader { R.broken source.old ≡ false }
     requires writer { W.broken sink.old ≡ false }
     ensures takes { WorldGoesBy S.Store desk.old desk.new (λ before after.
         TakesMessage now file.now (R.left source.old) before after
         (W.held sink.old) (W.held sink.new) result) }
+    ensures noted { NotesMessage file.now (R.left source.old) noted.new }
+    ensures unnoted { is_noted ≡ false → noted.new ≡ None }
     ensures read_fault { R.broken source.new ≡ true → reader_failed result ≡ true }
     ensures broken { W.broken sink.new ≡ writer_failed result }
     ensures taken { TookAtMost (R.left source.old) (R.left source.new)
         (MOST_MESSAGE_BYTES + READ_SIZE) }
     ensures reads { CountsUpTo (R.fills source.old) (R.fills source.new) MOST_READS }
 {
+    *noted = None;
     match read_script(alloc, source, MOST_MESSAGE_BYTES) {
-        Ok(message) => do_message(alloc, desk, file, message.as_slice(), sink, now),
+        Ok(message) => {
+            let bytes = message.as_slice();
+            *noted = note_message(alloc, file, bytes, is_noted);
+            do_message(alloc, desk, file, bytes, sink, now)
+        }
         Err(fault) => Err(fault),
     }
 }
@@ -355,7 +379,8 @@ fn take_message<S: Alter, R: Source, W: Sink>(
 /// Reads one message, does what it asks for at a moment, in seconds since 1970, where it is for the file of this name, writes what
 /// is printed, and then how the message ended: `end 0`, or `end 1` with the word of the reason where its order was refused,
 /// `end 2` where it is no message of this version, `end 4` where it is for another file, and `end 3` with the name of a fault,
-/// also where the message was not read. Where an answer has no such line, what the message asked for was done, or was not.
+/// also where the message was not read. Where an answer has no such line, what the message asked for was done, or was not. Notes for
+/// a log what the message asks for, where `is_noted`; nothing where that is not known, or memory is out.
 pub fn answer_message<S: Alter, R: Source, W: Sink>(
     alloc: Global,
     desk: &mut Desk<S>,
@@ -363,12 +388,17 @@ pub fn answer_message<S: Alter, R: Source, W: Sink>(
     source: &mut R,
     sink: &mut W,
     now: u64,
+    is_noted: bool,
+    noted: &mut Option<Subject>,
 ) -> Result<End, ScriptFault>
     requires reader { R.broken source.old ≡ false }
     requires writer { W.broken sink.old ≡ false }
     ensures answers { WorldGoesBy S.Store desk.old desk.new (λ before after.
         AnswersMessage now file.now (R.left source.old) before after
         (W.held sink.old) (W.held sink.new) result) }
+    ensures ended { IsEndTold (W.held sink.new) result }
+    ensures noted { NotesMessage file.now (R.left source.old) noted.new }
+    ensures unnoted { is_noted ≡ false → noted.new ≡ None }
     ensures read_fault { R.broken source.new ≡ true
         → (reader_failed result || writer_failed result) ≡ true }
     ensures write_fault { W.broken sink.new ≡ writer_failed result }
@@ -376,6 +406,6 @@ pub fn answer_message<S: Alter, R: Source, W: Sink>(
         (MOST_MESSAGE_BYTES + READ_SIZE) }
     ensures reads { CountsUpTo (R.fills source.old) (R.fills source.new) MOST_READS }
 {
-    let ended = take_message(alloc, desk, file, source, sink, now);
+    let ended = take_message(alloc, desk, file, source, sink, now, is_noted, noted);
     tell_end(sink, ended)
 }

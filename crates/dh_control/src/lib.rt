@@ -8,6 +8,7 @@ mod cutting;
 mod end;
 mod laws;
 mod message;
+mod note;
 
 pub use answering::answer_message;
 pub use asking::{import_message, line_message, words_message};

@@ -102,8 +102,8 @@ fn connect_to_database<S: Start>(
 }
 
 /// Opens a file that `init_file` made, and tells how many projects it has. Reads the whole file. No other program can open it
-/// until it is closed. Makes no file, and leaves a file that it refuses as it is. To a file that an earlier program made it adds
-/// the tables of derived records, and it makes their rows right where they are not.
+/// until it is closed. Makes no file, and leaves a file that it refuses as it is. It makes the tables of derived records where one
+/// is missing or has a row of no record, and makes their rows right where they are not.
 pub fn open_desk<S: Start>(
     rt: &HostRuntime,
     path: &str,

@@ -9,17 +9,21 @@ ghost use Rattle.dh_wire.specs.Wire.{head_of};
 ghost use Rattle.dh_desk.specs.Desk.{HasCleanDisk, WorldGoesBy, state, world};
 ghost use Rattle.dh_http.specs.Answers as spec;
 ghost use Rattle.dh_http.specs.Headline.{Headline};
+ghost use Rattle.dh_http.specs.Notes.{NotesCommand, NotesRequest, NotesSource};
+ghost use Rattle.dh_http.specs.Notes as notes;
+ghost use Rattle.dh_log.specs.Subjects.{NotesNothing};
 
 use crate::callers::{host_text, pass_text};
 use crate::commands::command_reply;
 use crate::fault::{Done, EngineFault};
 use crate::sending::{answer_unavailable, send_reply};
 use dh_desk::Desk;
+use dh_log::Note;
 use dh_paths::{Bytes, HostName};
 use dh_ports::{MOST_READS, READ_SIZE, Sink, Source};
 use dh_reply::{Read, Reply, fault_reply, head_bytes};
 use dh_requests::{Request, Stop, read_request};
-use dh_world::Command;
+use dh_world::{Answer, Command, Refusal};
 use sqlite::Alter;
 use std::alloc::Global;
 
@@ -35,17 +39,38 @@ fn read_reply<S: Alter>(
     ensures reads { WorldGoesBy S.Store desk.old desk.new
         (λ before after. (after ≡ before) × IfSome result
         (λ r. r ≡ spec.read_reply moment before host.now pass.now read.now)) }
+    ensures closed { desk.old.closed ≡ true → desk.new ≡ desk.old }
 {
     desk.read(alloc, host_text(host), pass_text(pass), read, moment)
         .ok()
 }
 
-/// Does a command, and gives its reply, unless memory is out.
-fn apply_reply<S: Alter>(alloc: Global, desk: &mut Desk<S>, command: &Command) -> Option<Reply>
+/// Why a command was refused, where it was.
+fn refusal_in(outcome: &Result<Answer, Refusal>) -> Option<Refusal>
+    ensures { result ≡ notes.refusal_in outcome.now }
+{
+    match outcome {
+        Ok(_) => None,
+        Err(refusal) => Some(*refusal),
+    }
+}
+
+/// Does a command, notes what came of it, and gives its reply, unless memory is out.
+fn apply_reply<S: Alter>(
+    alloc: Global,
+    desk: &mut Desk<S>,
+    command: &Command,
+    note: &mut Note,
+) -> Option<Reply>
     ensures makes { (moment : ℕ) → WorldGoesBy S.Store desk.old desk.new
         (λ before after. spec.MakesReply moment before after (Request.Apply command.now) result) }
+    ensures noted { WorldGoesBy S.Store desk.old desk.new
+        (λ before after. NotesCommand before after command.now note.new) }
+    ensures closed { desk.old.closed ≡ true → desk.new ≡ desk.old }
 {
-    command_reply(alloc, desk.apply(alloc, command)).ok()
+    let outcome = desk.apply(alloc, command);
+    *note = Note::of_post(alloc, command, refusal_in(&outcome));
+    command_reply(alloc, outcome).ok()
 }
 
 /// Does what a request asks for, and gives the reply, unless memory is out or the store fails in a
@@ -55,10 +80,15 @@ fn request_reply<S: Alter>(
     desk: &mut Desk<S>,
     request: &Request,
     moment: u64,
+    note: &mut Note,
 ) -> Option<Reply>
+    requires { NotesNothing note.old }
     ensures makes { WorldGoesBy S.Store desk.old desk.new
         (λ before after. spec.MakesReply moment before after request.now result) }
+    ensures noted { WorldGoesBy S.Store desk.old desk.new
+        (λ before after. NotesRequest before after request.now note.new) }
     ensures refused { spec.IsRefusal request.now → desk.new ≡ desk.old }
+    ensures closed { desk.old.closed ≡ true → desk.new ≡ desk.old }
 {
     match request {
         Request::Read {
@@ -67,7 +97,7 @@ fn request_reply<S: Alter>(
             read,
             ..
         } => read_reply(alloc, desk, host, pass, read, moment),
-        Request::Apply { command } => apply_reply(alloc, desk, command),
+        Request::Apply { command } => apply_reply(alloc, desk, command, note),
         Request::Refused { status, allow, .. } => fault_reply(alloc, *status, *allow).ok(),
     }
 }
@@ -89,14 +119,19 @@ fn make_answer<S: Alter>(
     desk: &mut Desk<S>,
     request: &Request,
     moment: u64,
+    note: &mut Note,
 ) -> Option<(Reply, Vec<u8>)>
+    requires { NotesNothing note.old }
     ensures makes { WorldGoesBy S.Store desk.old desk.new
         (λ before after. spec.MakesReply moment before after request.now
         (option_map (λ made. made.0) result)) }
+    ensures noted { WorldGoesBy S.Store desk.old desk.new
+        (λ before after. NotesRequest before after request.now note.new) }
     ensures head { IfSome result (λ made. made.1.items ≡ head_of made.0) }
     ensures refused { spec.IsRefusal request.now → desk.new ≡ desk.old }
+    ensures closed { desk.old.closed ≡ true → desk.new ≡ desk.old }
 {
-    let reply = request_reply(alloc, desk, request, moment)?;
+    let reply = request_reply(alloc, desk, request, moment, note)?;
     let head = head_bytes(alloc, &reply).ok()?;
     Some((reply, head))
 }
@@ -108,16 +143,21 @@ fn answer_request<S: Alter, W: Sink>(
     request: &Request,
     sink: &mut W,
     moment: u64,
+    note: &mut Note,
 ) -> Result<Done, EngineFault>
-    requires { W.broken sink.old ≡ false }
+    requires fine { W.broken sink.old ≡ false }
+    requires fresh { NotesNothing note.old }
+    ensures noted { WorldGoesBy S.Store desk.old desk.new
+        (λ before after. NotesRequest before after request.now note.new) }
     ensures writes { WorldGoesBy S.Store desk.old desk.new
         (λ before after. spec.WritesAnswer (spec.AnswersRequest moment before after request.now)
         (W.held sink.old) (W.held sink.new) result) }
     ensures refused { spec.IsRefusal request.now → desk.new ≡ desk.old }
+    ensures closed { desk.old.closed ≡ true → desk.new ≡ desk.old }
     ensures writer_fault { W.broken sink.new ≡ spec.writer_failed result }
     ensures read { spec.is_unread result ≡ false }
 {
-    match make_answer(alloc, desk, request, moment) {
+    match make_answer(alloc, desk, request, moment, note) {
         Some((reply, head)) => send_reply(sink, &reply, head.as_slice(), is_bodiless(request)),
         None => answer_unavailable(sink, is_bodiless(request)),
     }
@@ -127,13 +167,15 @@ fn answer_request<S: Alter, W: Sink>(
 ///
 /// A read is answered by what its caller sees of the project of its host; a POST to `/_/push` or
 /// `/_/upload` is one command; anything else is refused, and the desk is not asked. Out of memory, and where the store fails
-/// in a read, the reply is 503. At `Write` an accepted command stays. `now` is the moment of the request, in seconds since 1970.
+/// in a read, the reply is 503. At `Write` an accepted command stays. `now` is the moment of the request, in seconds since 1970. The
+/// note is of this request from then on: of a command it tells what it asks for and why it was refused, and nothing of any other.
 pub fn answer<S: Alter, R: Source, W: Sink>(
     alloc: Global,
     desk: &mut Desk<S>,
     source: &mut R,
     sink: &mut W,
     now: u64,
+    note: &mut Note,
 ) -> Result<Done, EngineFault>
     requires reader { R.broken source.old ≡ false }
     requires writer { W.broken sink.old ≡ false }
@@ -142,10 +184,13 @@ pub fn answer<S: Alter, R: Source, W: Sink>(
         (W.held sink.old) (W.held sink.new) result) }
     ensures headline { HasCleanDisk (state S.Store desk.new.tables) → Headline now
         (world S.Store desk.old) (R.left source.old) (W.held sink.old) (W.held sink.new) result }
+    ensures noted { WorldGoesBy S.Store desk.old desk.new
+        (λ before after. NotesSource (R.left source.old) before after note.new) }
     ensures unread { spec.is_unread result ≡ true
         → (desk.new ≡ desk.old) × (sink.new ≡ sink.old) }
     ensures refused { IfSome (R.left source.old)
         (λ input. spec.AsksInVain input → desk.new ≡ desk.old) }
+    ensures closed { desk.old.closed ≡ true → desk.new ≡ desk.old }
     ensures reader_fault { R.broken source.new ≡ spec.reader_failed result }
     ensures writer_fault { W.broken sink.new ≡ spec.writer_failed result }
     ensures needed { IsNeeded (R.left source.old) (R.left source.new)
@@ -156,8 +201,9 @@ pub fn answer<S: Alter, R: Source, W: Sink>(
         → CountsAtLeast (R.fills source.old) (R.fills source.new) MOST_READS }
     ensures reads { CountsUpTo (R.fills source.old) (R.fills source.new) MOST_READS }
 {
+    *note = Note::nothing();
     match read_request(alloc, source) {
-        Ok(request) => answer_request(alloc, desk, &request, sink, now),
+        Ok(request) => answer_request(alloc, desk, &request, sink, now, note),
         Err(Stop::Memory) => answer_unavailable(sink, false),
         Err(Stop::Read) => Err(EngineFault::Read),
         Err(Stop::TooManyTurns) => Err(EngineFault::TooManyTurns),

@@ -1,34 +1,31 @@
 -- Each statement that makes schema 2 of schema 1, and all of them in turn.
-use Rattle.std.proofs.Common.{◌≡◌, ◌⊎◌, inl, inr, ℕ, zero, suc, ◌+◌, ◌<◌, ◌≤◌, ◌==◌, ℤ, pos, negsuc, Bool, true, false, not, cond, List, [], ◌∷◌, ◌++◌, map, filter, take, codes, Option, None, Some, Ok, Err, Result, OnOk, refl, sym, ap, subst, ◌∙◌, arith, is_eq, is_gt, Less, Ordering, slice_index_or, length}
+use Rattle.std.proofs.Common.{◌≡◌, ℕ, zero, suc, ◌+◌, ◌<◌, pos, false, not, List, [], ◌∷◌, ◌++◌, filter, take, codes, Some, Ok, Err, Result, OnOk, refl, sym, ap, subst, ◌∙◌, arith, is_eq, is_gt, Less, slice_index_or, length}
 use Rattle.std.proofs.Math.Bool.{and-true}
 use Rattle.std.proofs.lemmas.List.{take_more}
 use Rattle.std.proofs.lemmas.Cmp.{tied_itself}
 use Rattle.sqlite_value.proofs.OrderLemmas.{value_cmp_total}
 use Rattle.std.specs.List.{AllByRecursion}
 use Rattle.std.specs.Ordering.{ordering_reverse}
-use Rattle.sqlite_value.specs.declared.value.Value.TheVariants.{Null, Int, Text}
+use Rattle.sqlite_value.specs.declared.value.Value.TheVariants.{Null, Int}
 use Rattle.sqlite_value.specs.Order.{Row}
-use Rattle.sqlite_value.specs.Keys as keys
 use Rattle.sqlite_sql.specs.Term.{lit, col}
 use Rattle.sqlite_trees.specs.Tree.{IsAscending}
 use Rattle.sqlite_trees.specs.declared.store.Store.{Ghosts}
-use Rattle.sqlite_schema.specs.declared.schema.Table.{Table}
 use Rattle.sqlite_schema.specs.declared.schema.Schema.{Schema}
 use Rattle.sqlite_schema.specs.Names.{same_name}
-use Rattle.sqlite_keyed.specs.Lists.{insert_sorted}
 use Rattle.sqlite_tied.specs.Compute.{everything}
-use Rattle.sqlite.specs.Effect.{Database, IsDatabase}
+use Rattle.sqlite.specs.Effect.{Database}
 use Rattle.sqlite.specs.State.{State}
 use Rattle.sqlite.specs.Held.{Held, state}
 use Rattle.dh_ports.specs.declared.fault.Fault.{Fault}
-use Rattle.dh_rows.specs.Calls.{EditsTo, IsHonest, IsPlainEdit, MakesNoCommitInside, OnlyEdits, NowShows, whole}
+use Rattle.dh_rows.specs.Calls.{EditsTo, IsHonest, MakesNoCommitInside, OnlyEdits, NowShows, whole}
 use Rattle.sqlite.specs.State.{HasCleanDisk}
 use Rattle.dh_schema.specs.InTurn.{lasts_on}
 use Rattle.dh_rows.specs.Keyed.{Coding, IsTableOf, records_in_rows, by_key, same_key, IsFreeKey, added}
-use Rattle.dh_rows.specs.Places.{StandsInSchema, KeepsTable, rows_of, records_of, IsUnmentioned, ArePlaced}
+use Rattle.dh_rows.specs.Places.{StandsInSchema, KeepsTable, records_of}
 use Rattle.dh_rows.proofs.Asks.{WritesTable, insert, delete}
-use Rattle.dh_rows.proofs.Create.{IsCreate, makes, MakesEmptyTable, Creates, creates}
-use Rattle.dh_rows.proofs.Drop.{IsDrop, drops, Drops, DropsTable, drops_table}
+use Rattle.dh_rows.proofs.Create.{IsCreate, makes, Creates, creates}
+use Rattle.dh_rows.proofs.Drop.{IsDrop, drops, DropsTable, drops_table}
 use Rattle.dh_rows.proofs.Effects.{IsSimple, TurnsTable, other_keeps}
 use Rattle.dh_rows.proofs.Equal.{equal_int}
 use Rattle.dh_rows.proofs.Lists.{by_key_total}
@@ -37,8 +34,6 @@ use Rattle.dh_rows.proofs.Texts.{ArePlain}
 use Rattle.dh_records.specs.Codings.{passes}
 use Rattle.dh_records.specs.Constraints.{InOrder}
 use Rattle.dh_records.specs.declared.records.PassRow.{PassRow}
-use Rattle.dh_schema.specs.Making.{CanAdd, derived_tables}
-use Rattle.dh_schema.proofs.Made.{Spares, wait}
 use Rattle.dh_schema.specs.Tables.{meta, meta_table, pass_table}
 use Rattle.dh_schema.specs.ColumnLemmas.{pass_simple, pass_plain, pass_back}
 use Rattle.dh_migrating.specs.OldPasses.{old_pass_table}
@@ -63,7 +58,7 @@ drop_asks s old = drops_table old_pass_table drop_text drop_read refl no_counter
 pub dropped : (s : State) → IsConvertible s.now → (after : Database) → EditsTo s drop_text [] after → IsGone s.now after
 dropped s old after edits =
     let it = (drop_asks s old).dropped after edits in
-    record { free = it.free; unmentioned = it.unmentioned; counted = it.counted; placed = it.placed; others = it.others; addable = λ can. ((it.spared _ can.0.0.0 can.0.0.1, (it.spared _ can.0.1.0.0 can.0.1.0.1, tt)), it.counted) }
+    record { free = it.free; unmentioned = it.unmentioned; counted = it.counted; placed = it.placed; others = it.others }
 
 -- ---- CREATE
 
@@ -77,10 +72,6 @@ create_read = makes refl refl refl refl refl refl refl refl
 pub create_asks : (s : State) {before : Database} → IsGone before s.now → Creates s create_text pass_table
 create_asks s gone = creates pass_table create_text create_read refl refl (refl, tt) s gone.free gone.unmentioned gone.counted gone.placed
 
-no_spare : AllByRecursion (Spares pass_table) derived_tables
-unfolding everything
-no_spare = ((refl, λ tree. (refl, tt)), ((refl, λ tree. (refl, tt)), tt))
-
 none : {X : Type 0} (c : Coding X) → IsTableOf c []
 none c = record { coded = tt; apart = tt; keyed = tt }
 
@@ -91,7 +82,6 @@ created s gone after edits =
       keeps = record { stands = it.stands; rows = subst (IsTableOf passes) (sym it.empty) (none passes) };
       passes = ap (records_in_rows passes) it.empty;
       others = λ u was apart. it.others u was;
-      addable = λ can. (wait pass_table refl s.now after it gone.unmentioned derived_tables no_spare can.0, it.counted);
     }
 
 -- ---- INSERT
@@ -224,7 +214,6 @@ module _ (rows : List PassRow) (up : InOrder passes.key rows) (d : PassRow) (i :
     keeps = it.keeps;
     passes = it.records ∙ ap (added passes.key next) had.passes ∙ last_added next (take i rows) below ∙ sym (take_more rows i d low);
     others = λ u was apart. let o = had.others u was apart in (subst (λ s. StandsInSchema s u) (sym it.schema) o.0, it.others u o.0 apart ∙ o.1);
-    addable = λ can. subst CanAdd (sym it.schema) (had.addable can);
   }
 
 -- the same of the one that is taken from its place
@@ -281,7 +270,6 @@ all_converted rows before dropped made wrote bare after old gone new had minus p
       meta = plus.keeps;
       number = plus.records ∙ ap (added meta.key 2) (number_gone wrote bare m.1 minus);
       others = λ u was not_pass not_meta. let o = spares u was not_pass in let n = spared minus u o.0 not_meta in let l = spared plus u n.0 not_meta in (l.0, l.1 ∙ n.1 ∙ o.1);
-      addable = λ can. subst CanAdd (sym plus.schema) (subst CanAdd (sym minus.schema) (had.addable (new.addable (gone.addable can))));
     }
 
 module _ {S : Type 0} {g : Ghosts S} {o a b c : Held S} (rows : List PassRow) (old : IsHonest g o → IsConvertible (state g o).now)

@@ -16,7 +16,6 @@ use Rattle.dh_rows.specs.Places.{IsFree, IsUnshared, IsUnmentioned, ArePlaced, S
 use Rattle.dh_rows.specs.Shapes.{IsLone}
 use Rattle.dh_records.specs.Codings as coding
 use Rattle.dh_records.specs.declared.records.PassRow.{PassRow}
-use Rattle.dh_schema.specs.Making.{CanAdd}
 use Rattle.dh_schema.specs.Tables.{meta, meta_table, pass_table}
 use Rattle.dh_migrating.specs.OldPasses.{old_pass_table}
 
@@ -41,10 +40,6 @@ SparesOthers name before after =
     (u : Table) → StandsInSchema before.schema u → same_name u.name name ≡ false
     → StandsInSchema after.schema u × (rows_of after u.name ≡ rows_of before u.name)
 
--- where the tables of derived records can be added, they can be added still
-abbrev pub StaysAddable : Database → Database → Type 0
-StaysAddable before after = CanAdd before.schema → CanAdd after.schema
-
 -- the table of passes is gone
 pub record IsGone (before db : Database) : Type 0 where
   pub free : IsFree db.schema (codes "pass")
@@ -52,14 +47,12 @@ pub record IsGone (before db : Database) : Type 0 where
   pub counted : lacks_sequence db.schema ≡ false
   pub placed : ArePlaced db.schema
   pub others : SparesOthers (codes "pass") before db
-  pub addable : StaysAddable before db
 
 -- a new table of passes has these records
 pub record HasPasses (rows : List PassRow) (before db : Database) : Type 0 where
   pub keeps : KeepsTable pass_table coding.passes db
   pub passes : records_of coding.passes (codes "pass") db ≡ rows
   pub others : SparesOthers (codes "pass") before db
-  pub addable : StaysAddable before db
 
 -- the number of schema 1
 abbrev pub is_one : ℕ → Bool
@@ -74,7 +67,6 @@ pub record IsConverted (rows : List PassRow) (before db : Database) : Type 0 whe
   pub others
       : (u : Table) → StandsInSchema before.schema u → same_name u.name (codes "pass") ≡ false → same_name u.name (codes "meta") ≡ false
       → StandsInSchema db.schema u × (rows_of db u.name ≡ rows_of before u.name)
-  pub addable : StaysAddable before db
 
 -- What statements in turn leave, or none: once answered, a transaction stays as it was, and P is true of what is seen.
 pub record CarriesTo {S : Type 0} (g : Ghosts S) (old new : Held S) (result : Result (Unit {0}) Fault) (P : Database → Type 0) : Type 0 where

@@ -1,5 +1,5 @@
 -- The passes of schema 1, which have no end.
-use Rattle.std.specs.Prelude.{ℕ, List, [], ◌∷◌, codes, map, None}
+use Rattle.std.specs.Prelude.{[], ◌∷◌, codes, map, None}
 use Rattle.sqlite_value.specs.declared.value.Value.TheVariants.{Text}
 use Rattle.sqlite_schema.specs.declared.schema.Table.{Table}
 use Rattle.sqlite.specs.Effect.{Database}

@@ -10,16 +10,18 @@ use Rattle.dh_ports.specs.Faults.{OnStore}
 use Rattle.dh_rows.specs.Calls.{MakesNoCommitInside, IsBlamed, IsHonest, IsRefused, Keep, KeepsFaults, LeavesNoMore, LeavesSeen, OnlyBegins, OnlyCommits, ShowsHonestly, whole}
 use Rattle.dh_records.specs.Constraints.{AreInOrder, KeepsConstraints}
 use Rattle.dh_schema.specs.InTurn.{blamed_before, lasts_none, lasts_on}
-use Rattle.dh_schema.specs.Making.{CanAdd}
 use Rattle.dh_schema.specs.Tables.{HoldsTables, lists_of}
 use Rattle.dh_migrating.specs.Converting.{CarriesTo}
 use Rattle.dh_tables.proofs.OrderLemmas.{in_order}
 use Rattle.dh_opening.specs.declared.fault.TablesFault.{TablesFault}
 use Rattle.dh_opening.specs.declared.fault.TablesFault.TheVariants.{NotOurs, OldSchema, Failed}
-use Rattle.dh_opening.specs.Opening.{IsOursOrOld, IsNumbered, IsOurs, OnFailed, OnNotOurs, OnOldSchema, JudgesTables}
-use Rattle.dh_opening.specs.Filling.{BringsBy, IsAtRest, IsFilled, IsNothingAdded, IsOpened, LacksDerived, LeavesBrought, OpensTables}
+use Rattle.dh_opening.specs.declared.opening.Found.{Found}
+use Rattle.dh_opening.specs.declared.opening.Found.TheVariants.{Old, Ours}
+use Rattle.dh_opening.specs.Opening.{IsDerivedBy, IsFound, IsNumbered, IsOurs, OnFailed, OnNotOurs, OnOldSchema, JudgesTables}
+use Rattle.dh_opening.specs.Filling.{AreMadeAnew, BringsBy, IsAtRest, IsNothingChanged, IsOpened, LacksDerived, LeavesBrought, OpensTables}
 use Rattle.dh_opening.proofs.FillLemmas.{ours_brought}
 use Rattle.dh_opening.proofs.Looks.{on_failed}
+use Rattle.dh_opening.proofs.Spelling.{lacks_anew}
 
 -- ---- in a transaction of its own
 
@@ -64,15 +66,15 @@ module _ {S : Type 0} {g : Ghosts S} (R : Database → Database → Type 0) {a b
     subst (λ (was : Database). R was (state g d).now) (begun clean).now_is (subst (λ (db : Database). R (state g b).now db) (sym ended.now_is) (made_then clean).2),
   )
 
--- tables that were found ours before the begin, to which those of derived records are added
-pub opens_filled
-    : {S : Type 0} {g : Ghosts S} {a b c : Held S} → OnlyBegins g whole a b (Ok tt) → (IsHonest g a → IsOurs (state g a).now) → CarriesTo g b c (Ok tt) (IsFilled (state g b).now)
+-- tables that were found ours before the begin, of which those of derived records are made anew
+pub opens_anew
+    : {S : Type 0} {g : Ghosts S} {a b c : Held S} → OnlyBegins g whole a b (Ok tt) → (IsHonest g a → LacksDerived (state g a).now) → CarriesTo g b c (Ok tt) (AreMadeAnew (state g b).now)
     → IsHonest g b → HasCleanDisk (state g c) → IsHonest g c × (c.in_transaction ≡ b.in_transaction) × IsOpened (state g b).now (state g c).now
-opens_filled {g = g} {b = b} {c = c} begins ours it honest clean =
+opens_anew {g = g} {b = b} {c = c} begins lacks it honest clean =
     let begun = begins.begun.done honest.0 in
-    let mine = subst IsOurs (sym begun.now_is) (ours begun.was_honest) in
-    let filled = it.made honest clean in
-    (filled.0, filled.1, (mine, ours_brought (state g b).now (state g c).now mine filled.2))
+    let mine = subst LacksDerived (sym begun.now_is) (lacks begun.was_honest) in
+    let anew = it.made honest clean in
+    (anew.0, anew.1, (mine.0, ours_brought false (state g b).now (state g c).now mine.0 (lacks_anew (state g b).now mine) anew.2))
 
 -- what is said of any refusal
 pub any_err : {P : Type 0} (r : Result (Unit {0}) TablesFault) → P → OnErr r P
@@ -224,9 +226,9 @@ module _ {S : Type 0} {g : Ghosts S} where
   -- ---- tables that are opened
 
   -- what a look finds of tables that were ours, for what comes after it
-  module _ {a b : Held S} {N : Database → Type 0} (known : Bool) (first : JudgesTables g a b (Ok known) (λ db is. IsOursOrOld is db) N) where
-    pub ours_then : known ≡ true → IsHonest g b → IsOurs (state g b).now
-    ours_then is honest = subst IsOurs (sym (first.same honest.0).now_is) (subst (λ k. IsOursOrOld k (state g a).now) is (first.found honest.0).1)
+  module _ {a b : Held S} {N : Database → Type 0} (known : Found) (first : JudgesTables g a b (Ok known) (λ db found. IsFound found db) N) where
+    pub ours_then : (derived : Bool) → known ≡ Ours derived → IsHonest g b → IsOurs (state g b).now × IsDerivedBy derived (state g b).now
+    ours_then derived is honest = subst (IsFound (Ours derived)) (sym (first.same honest.0).now_is) (subst (λ k. IsFound k (state g a).now) is (first.found honest.0).1)
 
     pub rests_then : a.in_transaction ≡ false → (IsTrue (state g a).is_open → (state g a).now ≡ (state g a).committed) → HasCleanDisk (state g b) → IsAtRest g b
     rests_then outside settled clean =
@@ -250,7 +252,7 @@ module _ {S : Type 0} {g : Ghosts S} where
 
   -- tables of schema 1
   pub old_opens
-      : {a b : Held S} {N : Database → Type 0} (known : Bool) → known ≡ false → JudgesTables g a b (Ok known) (λ db is. IsOursOrOld is db) N → OpensTables g a b (Err OldSchema)
+      : {a b : Held S} {N : Database → Type 0} (known : Found) → known ≡ Old → JudgesTables g a b (Ok known) (λ db found. IsFound found db) N → OpensTables g a b (Err OldSchema)
   old_opens {a} {b} known is it = record {
     brings = record {
       lasts = it.goes.lasts;
@@ -261,40 +263,42 @@ module _ {S : Type 0} {g : Ghosts S} where
       told = λ clean. tt;
       crash = λ honest clean db may. inl (it.goes.quiet honest clean db may);
     };
-    numbered = λ clean. subst (λ k. IsOursOrOld k (state g a).now) is (it.found clean).1;
+    numbered = λ clean. subst (λ k. IsFound k (state g a).now) is (it.found clean).1;
     quiet = λ _ honest. it.goes.quiet honest;
   }
 
-  -- tables that were found ours, to which those of derived records are added
+  -- tables that were found ours, of which those of derived records are made anew where they do not stand with records
   pub then_opens
-      : {a b c : Held S} {N : Database → Type 0} (known : Bool) (r : Result (Unit {0}) TablesFault) → JudgesTables g a b (Ok known) (λ db is. IsOursOrOld is db) N → BringsBy g b c r IsOpened ⊥ (LacksDerived (state g b).now) → OnOldSchema r ⊥
-      → (IsHonest g b → ¬ CanAdd (state g b).now.schema → (c ≡ b) × OnErr r ⊥) → OpensTables g a c r
-  then_opens {a} {b} {c} known r first next current none = record {
+      : {a b c : Held S} {N : Database → Type 0} (known : Found) (derived : Bool) → known ≡ Ours derived → (r : Result (Unit {0}) TablesFault) → JudgesTables g a b (Ok known) (λ db found. IsFound found db) N
+      → BringsBy g b c r IsOpened ⊥ (LacksDerived (state g b).now) → OnOldSchema r ⊥
+      → (IsTrue derived → (c ≡ b) × OnErr r ⊥) → OpensTables g a c r
+  then_opens {a} {b} {c} known derived is r first next current none = record {
     brings = then_brings (λ db. ¬ IsOurs db × ¬ IsNumbered db 1) LacksDerived known r first (brings_as r (λ before after it. it) (λ never. absurd never) (λ lacks. lacks) next);
     numbered = λ clean. old _ r current;
     quiet = λ nothing honest clean db may. quiet r (next.ours clean) current nothing honest clean db may;
   }
     where
-      live : HasCleanDisk (state g b) → IsHonest g b
-      live clean = (clean, (first.same clean).is_open)
-
       old : (Q : Type 0) (r : Result (Unit {0}) TablesFault) → OnOldSchema r ⊥ → OnOldSchema r Q
       old Q (Ok u) it = tt
       old Q (Err NotOurs) it = tt
       old Q (Err OldSchema) it = absurd it
       old Q (Err (Failed fault)) it = tt
 
-      still : ¬ CanAdd (state g a).now.schema → IsHonest g a → LeavesNoMore g a c
-      still cannot honest clean db may =
-          let back = next.lasts.clean clean in
-          let is = (none (live back) (subst (λ (d : Database). ¬ CanAdd d.schema) (sym (first.same back).now_is) cannot)).0 in
-          first.goes.quiet honest back db (subst (λ (h : Held S). g.recovers h.store db) is may)
+      untouched : (derived : Bool) → ¬ LacksDerived (state g a).now → IsFound (Ours derived) (state g a).now → (IsTrue derived → (c ≡ b) × OnErr r ⊥) → c ≡ b
+      untouched true stands found none = (none refl).0
+      untouched false stands found none = absurd (stands (found.0, found.1.0))
 
-      quiet : (r : Result (Unit {0}) TablesFault) → OnNotOurs r ⊥ → OnOldSchema r ⊥ → IsNothingAdded r (state g a).now → IsHonest g a → LeavesNoMore g a c
-      quiet (Ok u) ours current cannot = still cannot
+      still : ¬ LacksDerived (state g a).now → IsHonest g a → LeavesNoMore g a c
+      still stands honest clean db may =
+          let back = next.lasts.clean clean in
+          let same = untouched derived stands (subst (λ k. IsFound k (state g a).now) is (first.found back).1) none in
+          first.goes.quiet honest back db (subst (λ (h : Held S). g.recovers h.store db) same may)
+
+      quiet : (r : Result (Unit {0}) TablesFault) → OnNotOurs r ⊥ → OnOldSchema r ⊥ → IsNothingChanged r (state g a).now → IsHonest g a → LeavesNoMore g a c
+      quiet (Ok u) ours current stands = still stands
       quiet (Err NotOurs) ours current nothing = absurd ours
       quiet (Err OldSchema) ours current nothing = absurd current
-      quiet (Err (Failed fault)) ours current cannot = still cannot
+      quiet (Err (Failed fault)) ours current stands = still stands
 
 -- ---- a connection whose limit on steps was cleared before
 

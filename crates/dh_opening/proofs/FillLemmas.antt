@@ -1,17 +1,20 @@
--- The tables of derived records are added, and the others keep their records.
-use Rattle.std.proofs.Common.{◌≡◌, ◌⊎◌, inl, inr, false, ◌<◌, ◌^◌, List, [], ◌∷◌, codes, Result, Ok, Err, OnOk, refl, sym, ap, subst, ◌∙◌, lit≤}
+-- The tables of derived records stand or are made anew, and the others keep their records.
+use Rattle.std.proofs.Common.{◌≡◌, ◌⊎◌, inl, inr, Bool, true, false, ℕ, ◌<◌, ◌^◌, List, [], ◌∷◌, codes, Result, Ok, Err, OnOk, refl, sym, ap, subst, ◌∙◌, lit≤}
 use Rattle.std.specs.List.{AllByRecursion}
 use Rattle.sqlite_schema.specs.declared.schema.Table.{Table}
 use Rattle.sqlite_schema.specs.Names.{same_name}
 use Rattle.sqlite_keyed.proofs.ListLemmas.{all_map, all_weaker}
 use Rattle.sqlite_tied.specs.Compute.{everything}
 use Rattle.sqlite_trees.specs.declared.store.Store.{Ghosts}
-use Rattle.sqlite.specs.Effect.{Database}
+use Rattle.sqlite.specs.Does.{lacks_sequence}
+use Rattle.sqlite.specs.Effect.{Database, IsDatabase}
 use Rattle.sqlite.specs.Held.{Held, state}
+use Rattle.sqlite.specs.State.{State}
 use Rattle.dh_ports.specs.declared.fault.Fault.{Fault}
 use Rattle.dh_rows.specs.Calls.{IsHonest}
 use Rattle.dh_rows.specs.Keyed.{Coding, IsTableOf, records_in_rows}
 use Rattle.dh_rows.specs.Places.{KeepsTable, StandsInSchema, records_of, rows_of}
+use Rattle.dh_rows.proofs.Drop.{DropsTable, drops, drops_table}
 use Rattle.dh_records.specs.Codings as coding
 use Rattle.dh_records.specs.Constraints.{KeepsConstraints}
 use Rattle.dh_records.specs.Lists.{Lists, base_of}
@@ -19,14 +22,15 @@ use Rattle.dh_records.specs.Typed.{IsProject, IsLanguage, IsVersion, IsPage, IsU
 use Rattle.dh_records.specs.declared.records.AliasRow.{AliasRow}
 use Rattle.dh_records.specs.declared.records.RouteRow.{RouteRow}
 use Rattle.dh_records.proofs.BaseLemmas.{constraints_of_base}
-use Rattle.dh_schema.specs.Making.{CanAdd, BuildsTables, GoesOn, IsAdded, SparesAll, added_tables, derived_tables}
+use Rattle.dh_schema.specs.Making.{BuildsTables, GoesOn, IsAdded, added_tables, derived_tables}
 use Rattle.dh_schema.specs.Tables.{HoldsTables, lists_of, meta, meta_table, alias_table, route_table, project_table, lang_table, version_table, page_table, used_table, pick_table, pass_table, holds_table, rule_table, redirect_table}
 use Rattle.dh_schema.specs.InTurn.{goes_anywhere, goes_none}
-use Rattle.dh_migrating.specs.Converting.{CarriesTo, IsConverted}
-use Rattle.dh_migrating.proofs.StepLemmas.{carried_as}
+use Rattle.dh_migrating.specs.Converting.{CarriesTo, IsConverted, SparesOthers}
+use Rattle.dh_migrating.proofs.StepLemmas.{carried_as, carried_on, true_then, was_honest}
 use Rattle.dh_migrating.specs.OldPasses.{IsOldPass, old_lists_of, without_end}
-use Rattle.dh_opening.specs.Opening.{HasDerived, IsOurs, MayDerive, StandFor, other_tables}
-use Rattle.dh_opening.specs.Filling.{IsBrought, IsFilled, KeepsDerived}
+use Rattle.dh_opening.specs.Dropping.{DropsIt}
+use Rattle.dh_opening.specs.Opening.{CanDrop, HasDerived, IsDerivedBy, IsOurs, StandFor, other_tables}
+use Rattle.dh_opening.specs.Filling.{AreMadeAnew, IsBrought, IsFilled, IsNotDerived, KeepsDerived}
 use Rattle.dh_opening.specs.Migrating.{IsOld}
 
 -- the table stands, and its rows stand for these records
@@ -49,33 +53,40 @@ pub record HasAll (db : Database) (l : Lists) : Type 0 where
 
 -- ---- a database that spares the tables of another
 
-module _ (db after : Database) (spares : SparesAll db after) where
-  has_on : {X : Type 0} (t : Table) (c : Coding X) (P : X → Type 0) (xs : List X) → Has t c P db xs → Has t c P after xs
-  has_on t c P xs it =
-      let o = spares t it.0 in
+are_not_derived : AllByRecursion IsNotDerived (meta_table ∷ pass_table ∷ other_tables)
+unfolding everything
+are_not_derived = ((refl, (refl, tt)), ((refl, (refl, tt)), ((refl, (refl, tt)), ((refl, (refl, tt)), ((refl, (refl, tt)), ((refl, (refl, tt)), ((refl, (refl, tt)), ((refl, (refl, tt)), ((refl, (refl, tt)), ((refl, (refl, tt)), ((refl, (refl, tt)), tt)))))))))))
+
+-- each table of ours but those of derived records stands with its rows
+abbrev SparesRecords : Database → Database → Type 0
+SparesRecords db after = (u : Table) → StandsInSchema db.schema u → IsNotDerived u → StandsInSchema after.schema u × (rows_of after u.name ≡ rows_of db u.name)
+
+module _ (db after : Database) (spares : SparesRecords db after) where
+  has_on : {X : Type 0} (t : Table) (c : Coding X) (P : X → Type 0) (xs : List X) → IsNotDerived t → Has t c P db xs → Has t c P after xs
+  has_on t c P xs apart it =
+      let o = spares t it.0 apart in
       (o.0, record { rows = subst (IsTableOf c) (sym o.1) it.1.rows; records = ap (records_in_rows c) o.1 ∙ it.1.records; typed = it.1.typed })
 
   all_on : (l : Lists) → HasAll db l → HasAll after l
-  all_on l it = record {
-    number = has_on meta_table meta (λ n. n < 2 ^ 32) _ it.number;
-    projects = has_on project_table coding.projects IsProject _ it.projects;
-    langs = has_on lang_table coding.langs IsLanguage _ it.langs;
-    versions = has_on version_table coding.versions IsVersion _ it.versions;
-    pages = has_on page_table coding.pages IsPage _ it.pages;
-    used = has_on used_table coding.used IsUsed _ it.used;
-    picks = has_on pick_table coding.picks IsPick _ it.picks;
-    passes = has_on pass_table coding.passes IsPass _ it.passes;
-    held = has_on holds_table coding.held IsHeld _ it.held;
-    rules = has_on rule_table coding.rules IsRule _ it.rules;
-    redirects = has_on redirect_table coding.redirects IsRedirect _ it.redirects;
-  }
+  all_on l it =
+      let apart = are_not_derived in
+      record {
+        number = has_on meta_table meta (λ n. n < 2 ^ 32) _ apart.0 it.number;
+        projects = has_on project_table coding.projects IsProject _ apart.1.1.1.1.0 it.projects;
+        langs = has_on lang_table coding.langs IsLanguage _ apart.1.1.1.1.1.0 it.langs;
+        versions = has_on version_table coding.versions IsVersion _ apart.1.1.1.1.1.1.0 it.versions;
+        pages = has_on page_table coding.pages IsPage _ apart.1.1.1.1.1.1.1.0 it.pages;
+        used = has_on used_table coding.used IsUsed _ apart.1.1.1.1.1.1.1.1.0 it.used;
+        picks = has_on pick_table coding.picks IsPick _ apart.1.1.1.1.1.1.1.1.1.0 it.picks;
+        passes = has_on pass_table coding.passes IsPass _ apart.1.0 it.passes;
+        held = has_on holds_table coding.held IsHeld _ apart.1.1.1.1.1.1.1.1.1.1.0 it.held;
+        rules = has_on rule_table coding.rules IsRule _ apart.1.1.0 it.rules;
+        redirects = has_on redirect_table coding.redirects IsRedirect _ apart.1.1.1.0 it.redirects;
+      }
 
-spares_itself : (db : Database) → SparesAll db db
-spares_itself db u was = (was, refl)
-
-filled_spares : (db after : Database) → IsFilled db after → SparesAll db after
-filled_spares db after (inl added) = added.1.others
-filled_spares db after (inr still) = subst (SparesAll db) (sym still.1) (spares_itself db)
+filled_spares : (derived : Bool) (db after : Database) → IsFilled derived db after → SparesRecords db after
+filled_spares true db after still u was apart = subst (λ (d : Database). StandsInSchema d.schema u × (rows_of d u.name ≡ rows_of db u.name)) (sym still) (was, refl)
+filled_spares false db after anew u was apart = anew.others u was apart
 
 -- ---- all tables
 
@@ -138,19 +149,14 @@ module _ (db : Database) (l : Lists) (it : HasAll db l) (names : List AliasRow) 
 
 -- ---- the tables of derived records
 
--- a table that stands leaves no place for it to be added
-stands_or_adds : (db : Database) → StandsInSchema db.schema alias_table → ¬ CanAdd db.schema
-stands_or_adds db stands can = let named = stands.has.named in let none = can.0.0.0.tables in absurd (cc)
+-- where a database had them they stand with what they had
+abbrev DerivedStay : Bool → Database → Database → Type 0
+DerivedStay true before db = HasDerived before × Has alias_table coding.aliases IsAlias db (lists_of before).aliases × Has route_table coding.routes IsRoute db (lists_of before).routes
+DerivedStay false before db = ¬ HasDerived before
 
--- Where a database had them they stand with what they had, or else they can be added.
-abbrev pub DerivesOrCanAdd : Database → Database → Type 0
-DerivesOrCanAdd before db =
-    (HasDerived before × Has alias_table coding.aliases IsAlias db (lists_of before).aliases × Has route_table coding.routes IsRoute db (lists_of before).routes)
-    ⊎ (CanAdd before.schema × CanAdd db.schema)
-
-pub derives : (db : Database) → MayDerive db → DerivesOrCanAdd db db
-derives db (inl has) = inl (has, (has.alone.0.stands, has.aliases), (has.alone.1.0.stands, has.routes))
-derives db (inr can) = inr (can, can)
+derives : (derived : Bool) (db : Database) → IsDerivedBy derived db → DerivedStay derived db db
+derives true db has = (has, (has.alone.0.stands, has.aliases), (has.alone.1.0.stands, has.routes))
+derives false db lacks = lacks.0
 
 none : {X : Type 0} (c : Coding X) → IsTableOf c []
 none c = record { coded = tt; apart = tt; keyed = tt }
@@ -164,39 +170,37 @@ record Got (before after : Database) : Type 0 where
   ways : List RouteRow
   alias : Has alias_table coding.aliases IsAlias after names
   route : Has route_table coding.routes IsRoute after ways
-  own : (HasDerived before × (names ≡ (lists_of before).aliases) × (ways ≡ (lists_of before).routes)) ⊎ (CanAdd before.schema × (names ≡ []) × (ways ≡ []))
+  own : (HasDerived before × (names ≡ (lists_of before).aliases) × (ways ≡ (lists_of before).routes)) ⊎ ((¬ HasDerived before) × (names ≡ []) × (ways ≡ []))
 
-got : (before db after : Database) → DerivesOrCanAdd before db → IsFilled db after → Got before after
-got before db after (inl it) (inl added) = absurd (stands_or_adds db it.1.0 added.0)
-got before db after (inl it) (inr still) = record {
+got : (derived : Bool) (before db after : Database) → DerivedStay derived before db → IsFilled derived db after → Got before after
+got true before db after it still = record {
   names = (lists_of before).aliases;
   ways = (lists_of before).routes;
-  alias = subst (λ d. Has alias_table coding.aliases IsAlias d (lists_of before).aliases) (sym still.1) it.1;
-  route = subst (λ d. Has route_table coding.routes IsRoute d (lists_of before).routes) (sym still.1) it.2;
+  alias = subst (λ d. Has alias_table coding.aliases IsAlias d (lists_of before).aliases) (sym still) it.1;
+  route = subst (λ d. Has route_table coding.routes IsRoute d (lists_of before).routes) (sym still) it.2;
   own = inl (it.0, refl, refl);
 }
-got before db after (inr can) (inl added) = record {
+got false before db after lacks anew = record {
   names = [];
   ways = [];
-  alias = bare alias_table coding.aliases IsAlias after added.1.ready.standing.1.0;
-  route = bare route_table coding.routes IsRoute after added.1.ready.standing.0;
-  own = inr (can.0, refl, refl);
+  alias = bare alias_table coding.aliases IsAlias after anew.made.1.0;
+  route = bare route_table coding.routes IsRoute after anew.made.0;
+  own = inr (lacks, refl, refl);
 }
-got before db after (inr can) (inr still) = absurd (still.0 can.1)
 
 own_are : (before after : Database) (it : Got before after) → KeepsDerived before (lists_of after)
 own_are before after it = go it.own
   where
-    go : (HasDerived before × (it.names ≡ (lists_of before).aliases) × (it.ways ≡ (lists_of before).routes)) ⊎ (CanAdd before.schema × (it.names ≡ []) × (it.ways ≡ [])) → KeepsDerived before (lists_of after)
+    go : (HasDerived before × (it.names ≡ (lists_of before).aliases) × (it.ways ≡ (lists_of before).routes)) ⊎ ((¬ HasDerived before) × (it.names ≡ []) × (it.ways ≡ [])) → KeepsDerived before (lists_of after)
     go (inl had) = inl (had.0, it.alias.1.records ∙ had.1, it.route.1.records ∙ had.2)
     go (inr none) = inr (none.0, it.alias.1.records ∙ none.1, it.route.1.records ∙ none.2)
 
 -- ---- what is brought about
 
-brought : (before db after : Database) (l : Lists) → base_of l ≡ l → HasAll db l → KeepsConstraints l → DerivesOrCanAdd before db → IsFilled db after → IsBrought l before after
-brought before db after l plain has kept derives filled =
-    let it = got before db after derives filled in
-    let all = all_on db after (filled_spares db after filled) l has in
+brought : (derived : Bool) (before db after : Database) (l : Lists) → base_of l ≡ l → HasAll db l → KeepsConstraints l → DerivedStay derived before db → IsFilled derived db after → IsBrought l before after
+brought derived before db after l plain has kept stay filled =
+    let it = got derived before db after stay filled in
+    let all = all_on db after (filled_spares derived db after filled) l has in
     let same : base_of (lists_of after) ≡ l = base after l all it.names it.ways it.alias it.route ∙ plain in
     record {
       holds = hold after l all it.names it.ways it.alias it.route;
@@ -223,8 +227,8 @@ ours_have db it =
     }
 
 -- tables that were ours
-pub ours_brought : (db after : Database) → IsOurs db → IsFilled db after → IsBrought (base_of (lists_of db)) db after
-ours_brought db after it filled = brought db db after (base_of (lists_of db)) refl (ours_have db it) it.kept.keeps (derives db it.derived) filled
+pub ours_brought : (derived : Bool) (db after : Database) → IsOurs db → IsDerivedBy derived db → IsFilled derived db after → IsBrought (base_of (lists_of db)) db after
+ours_brought derived db after it by filled = brought derived db db after (base_of (lists_of db)) refl (ours_have db it) it.kept.keeps (derives derived db by) filled
 
 -- ---- tables of schema 1
 
@@ -271,14 +275,31 @@ module _ (before between : Database) (old : IsOld before) (it : IsConverted (old
         redirects = kept redirect_table coding.redirects IsRedirect _ are_apart.1.0 (alone.1.1.0.stands, s.redirects);
       }
 
-  old_derives : MayDerive before → DerivesOrCanAdd before between
-  old_derives (inl has) = inl (has, kept alias_table coding.aliases IsAlias _ derived_apart.0 (has.alone.0.stands, has.aliases), kept route_table coding.routes IsRoute _ derived_apart.1.0 (has.alone.1.0.stands, has.routes))
-  old_derives (inr can) = inr (can, it.addable can)
+  old_derives : (derived : Bool) → IsDerivedBy derived before → DerivedStay derived before between
+  old_derives true has = (has, kept alias_table coding.aliases IsAlias _ derived_apart.0 (has.alone.0.stands, has.aliases), kept route_table coding.routes IsRoute _ derived_apart.1.0 (has.alone.1.0.stands, has.routes))
+  old_derives false lacks = lacks.0
 
-  pub old_brought : (after : Database) → IsFilled between after → IsBrought (old_lists_of before) before after
-  old_brought after filled = brought before between after (old_lists_of before) refl old_have old.kept.keeps (old_derives old.derived) filled
+  pub old_brought : (derived : Bool) (after : Database) → IsDerivedBy derived before → IsFilled derived between after → IsBrought (old_lists_of before) before after
+  old_brought derived after by filled = brought derived before between after (old_lists_of before) refl old_have old.kept.keeps (old_derives derived by) filled
 
--- ---- what adding leaves
+-- ---- dropping, and making anew
+
+pub drop_asks : (s : State) (t : Table) (text : List ℕ) → t.is_counted ≡ false → DropsIt text t.name → IsDatabase s.now → CanDrop s.now.schema t → lacks_sequence s.now.schema ≡ false → DropsTable s text t
+drop_asks s t text uncounted it sound can counted = drops_table t text it.drops uncounted it.apart s sound can.0.stands can.0.lone can.0.unmentioned can.1 counted
+
+pub alias_drops : DropsIt (codes "DROP TABLE alias") (codes "alias")
+unfolding everything
+alias_drops = record { drops = drops refl refl refl refl; apart = refl }
+
+pub route_drops : DropsIt (codes "DROP TABLE route") (codes "route")
+unfolding everything
+route_drops = record { drops = drops refl refl refl refl; apart = refl }
+
+anew : (before dropped bare after : Database) → SparesOthers (codes "alias") before dropped → SparesOthers (codes "route") dropped bare → IsAdded added_tables [] bare after → AreMadeAnew before after
+anew before dropped bare after first second added = record {
+  made = added.ready.standing;
+  others = λ u was apart. let o = first u was apart.0 in let n = second u o.0 apart.1.0 in let l = added.others u n.0 in (l.0, l.1 ∙ n.1 ∙ o.1);
+}
 
 module _ {S : Type 0} {g : Ghosts S} where
   carried_built : {old new : Held S} {r : Result (Unit {0}) Fault} {P : Database → Type 0} → BuildsTables g old new r P → CarriesTo g old new r P
@@ -288,8 +309,14 @@ module _ {S : Type 0} {g : Ghosts S} where
       go (Ok u) h = (h.0.honest, h.0.mode, h.1)
       go (Err e) h = tt
 
-  pub filled_built : {old new : Held S} {r : Result (Unit {0}) Fault} → CanAdd (state g old).now.schema → BuildsTables g old new r (IsAdded added_tables [] (state g old).now) → CarriesTo g old new r (IsFilled (state g old).now)
-  filled_built can it = carried_as (λ honest db added. inl (can, added)) (carried_built it)
+  -- nothing is done
+  pub carried_nothing : (h : Held S) (P : Database → Type 0) → (IsHonest g h → P (state g h).now) → CarriesTo g h h (Ok tt) P
+  carried_nothing h P is = record { goes = goes_anywhere (goes_none h); made = λ honest clean. (honest, refl, is honest) }
 
-  pub filled_nothing : (h : Held S) → ¬ CanAdd (state g h).now.schema → CarriesTo g h h (Ok tt) (IsFilled (state g h).now)
-  filled_nothing h cannot = record { goes = goes_anywhere (goes_none h); made = λ honest clean. (honest, refl, inr (cannot, refl)) }
+  module _ {a b c : Held S} (first : CarriesTo g a b (Ok tt) (SparesOthers (codes "alias") (state g a).now)) (second : CarriesTo g b c (Ok tt) (SparesOthers (codes "route") (state g b).now)) where
+    pub made_anew : {d : Held S} {r : Result (Unit {0}) Fault} → BuildsTables g c d r (IsAdded added_tables [] (state g c).now) → CarriesTo g a d r (AreMadeAnew (state g a).now)
+    made_anew it = carried_on first (carried_on second (carried_as (λ honest db added. anew (state g a).now (state g b).now (state g c).now db (true_then first (was_honest second honest)) (true_then second honest) added) (carried_built it)))
+
+    -- tables that cannot be made
+    pub not_made : (fault : Fault) → CarriesTo g a c (Err fault) (AreMadeAnew (state g a).now)
+    not_made fault = record { goes = (carried_on first second).goes; made = λ honest clean. tt }

@@ -13,7 +13,7 @@ use Rattle.dh_rows.proofs.Whole.{AreTextsOf, IsCodingOf}
 use Rattle.dh_records.specs.Constraints.{InOrder}
 use Rattle.dh_opening.proofs.Telling.{stand_for, told_of}
 use Rattle.dh_opening.specs.Judged.{AreFitRows, IsNewest, KeepsFitOne, StandFit}
-use Rattle.dh_opening.specs.Opening.{AnswersQuery, AreLaid, IsKeptAs}
+use Rattle.dh_opening.specs.Opening.{AnswersQuery, AreLaid}
 use Rattle.dh_opening.specs.Rows.{IsNext, part}
 
 -- ---- lists that are longer by one

@@ -169,6 +169,29 @@ module _ {S : Type 0} {g : Ghosts S} {a b : Held S} {T U : Type 0} {P : Database
     told = λ clean. tt;
   }
 
+  -- the same, by what is seen behind the look, too
+  pub then_seen : (u : U) → ((state g b).now ≡ (state g a).now → P (state g a).now x → Q (state g a).now u) → JudgesTables g a b (Ok u) Q M
+  then_seen u more = record {
+    goes = it.goes;
+    same = it.same;
+    err = λ honest. tt;
+    found = λ clean. let was = it.found clean in (was.0, more (it.same clean).now_is was.1);
+    ours = λ clean. tt;
+    current = tt;
+    told = λ clean. tt;
+  }
+
+  pub then_seen_not_ours : ((state g b).now ≡ (state g a).now → P (state g a).now x → M (state g a).now) → JudgesTables g a b {T = U} (Err NotOurs) Q M
+  then_seen_not_ours less = record {
+    goes = it.goes;
+    same = λ clean. tt;
+    err = λ honest. inl (it.same honest.0);
+    found = λ clean. tt;
+    ours = λ clean. less (it.same clean).now_is (it.found clean).1;
+    current = tt;
+    told = λ clean. tt;
+  }
+
 -- the same of an answer of which more is known than the database tells
 pub opens_with
     : {S : Type 0} {g : Ghosts S} {a b : Held S} {T : Type 0} {P Q : Database → T → Type 0} {N M : Database → Type 0} {E : T → Type 0} (r : Result T TablesFault)

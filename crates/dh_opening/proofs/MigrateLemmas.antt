@@ -1,5 +1,5 @@
 -- What becomes of tables of schema 1 as a whole.
-use Rattle.std.proofs.Common.{◌≡◌, inl, inr, ℕ, List, [], codes, map, Result, Ok, sym, ap, subst, ◌∙◌}
+use Rattle.std.proofs.Common.{◌≡◌, inl, inr, ℕ, Bool, List, [], codes, map, Result, Ok, sym, ap, subst, ◌∙◌}
 use Rattle.sqlite_keyed.proofs.ListLemmas.{ascending-map}
 use Rattle.sqlite_trees.specs.declared.store.Store.{Ghosts}
 use Rattle.sqlite.specs.Effect.{Database, IsDatabase}
@@ -17,7 +17,7 @@ use Rattle.dh_migrating.proofs.StepLemmas.{carried_as, carried_on}
 use Rattle.dh_migrating.specs.Converting.{CarriesTo, IsConvertible, IsConverted}
 use Rattle.dh_migrating.specs.OldPasses.{IsOldPass, old_lists_of, old_passes, without_end}
 use Rattle.dh_migrating.specs.declared.old_pass.OldPassRow.{OldPassRow}
-use Rattle.dh_opening.specs.Opening.{AreKeptIn, IsNumbered, IsOurs, MayDerive, StandFor, JudgesTables}
+use Rattle.dh_opening.specs.Opening.{AreKeptIn, IsDerivedBy, IsNumbered, IsOurs, MayDerive, StandFor, JudgesTables}
 use Rattle.dh_opening.specs.Filling.{IsFilled}
 use Rattle.dh_opening.specs.Migrating.{AreOldIn, IsMigrated, IsOld, IsShown}
 use Rattle.dh_opening.proofs.FillLemmas.{old_brought}
@@ -71,12 +71,12 @@ module _ (db : Database) (rows : List OldPassRow) (l : Lists) (pass : StandFor o
     lists_are,
   )
 
--- what converting and adding make of a database in turn
-abbrev pub BecomesMigrated : List PassRow → Database → Database → Type 0
-BecomesMigrated rows before after = (between : Database) × IsConverted rows before between × IsFilled between after
+-- what converting and filling make of a database in turn
+abbrev pub BecomesMigrated : Bool → List PassRow → Database → Database → Type 0
+BecomesMigrated derived rows before after = (between : Database) × IsConverted rows before between × IsFilled derived between after
 
-pub migrated : (before after : Database) → IsOld before → BecomesMigrated (old_lists_of before).passes before after → IsMigrated before after
-migrated before after old it = inr (old, old_brought before it.0 old it.1 after it.2)
+pub migrated : (derived : Bool) (before after : Database) → IsOld before → IsDerivedBy derived before → BecomesMigrated derived (old_lists_of before).passes before after → IsMigrated before after
+migrated derived before after old by it = inr (old, old_brought before it.0 old it.1 derived after by it.2)
 
 -- ---- making it so
 
@@ -85,24 +85,24 @@ module _ {S : Type 0} {g : Ghosts S} {a b : Held S} {T : Type 0} {P : Database �
   carried_look : CarriesTo g a b (Ok tt) (λ db. db ≡ (state g a).now)
   carried_look = record { goes = goes_anywhere first.goes; made = λ honest clean. let same = first.same clean in ((clean, same.is_open), same.mode, same.now_is) }
 
-  module _ (passes : List PassRow) (told : P (state g a).now x → IsDatabase (state g a).now × (IsNumbered (state g a).now 1 → IsOld (state g a).now × (passes ≡ (old_lists_of (state g a).now).passes))) (number : IsHonest g a → IsNumbered (state g a).now 1) where
-    found_now : HasCleanDisk (state g b) → IsDatabase (state g a).now × (IsOld (state g a).now × (passes ≡ (old_lists_of (state g a).now).passes))
-    found_now clean = let was = first.found clean in let it = told was.1 in (it.0, it.1 (number was.0))
+  module _ (derived : Bool) (passes : List PassRow) (told : P (state g a).now x → IsDatabase (state g a).now × IsDerivedBy derived (state g a).now × (IsNumbered (state g a).now 1 → IsOld (state g a).now × (passes ≡ (old_lists_of (state g a).now).passes))) (number : IsHonest g a → IsNumbered (state g a).now 1) where
+    found_now : HasCleanDisk (state g b) → IsDatabase (state g a).now × IsDerivedBy derived (state g a).now × (IsOld (state g a).now × (passes ≡ (old_lists_of (state g a).now).passes))
+    found_now clean = let was = first.found clean in let it = told was.1 in (it.0, it.1, it.2 (number was.0))
 
     pub old_then : HasCleanDisk (state g b) → IsOld (state g a).now
-    old_then clean = (found_now clean).1.0
+    old_then clean = (found_now clean).2.0
 
     pub convertible_then : IsHonest g b → IsConvertible (state g b).now
-    convertible_then honest = let it = found_now honest.0 in subst IsConvertible (sym (first.same honest.0).now_is) (convertible (state g a).now it.0 it.1.0)
+    convertible_then honest = let it = found_now honest.0 in subst IsConvertible (sym (first.same honest.0).now_is) (convertible (state g a).now it.0 it.2.0)
 
-    pub migrated_then : {c : Held S} {r : Result (Unit {0}) Fault} (rows : List PassRow) → rows ≡ passes → CarriesTo g b c r (BecomesMigrated rows (state g b).now) → CarriesTo g a c r (IsMigrated (state g a).now)
+    pub migrated_then : {c : Held S} {r : Result (Unit {0}) Fault} (rows : List PassRow) → rows ≡ passes → CarriesTo g b c r (BecomesMigrated derived rows (state g b).now) → CarriesTo g a c r (IsMigrated (state g a).now)
     migrated_then rows is it =
         carried_on carried_look
         (carried_as
         (λ honest db became.
-        let old = (found_now honest.0).1 in
-        migrated (state g a).now db old.0
-        (subst (λ (xs : List PassRow). BecomesMigrated xs (state g a).now db) (is ∙ old.1) (subst (λ (was : Database). BecomesMigrated rows was db) (first.same honest.0).now_is became)))
+        let found = found_now honest.0 in
+        migrated derived (state g a).now db found.2.0 found.1
+        (subst (λ (xs : List PassRow). BecomesMigrated derived xs (state g a).now db) (is ∙ found.2.1) (subst (λ (was : Database). BecomesMigrated derived rows was db) (first.same honest.0).now_is became)))
         it)
 
 -- ---- what migrated tables are

@@ -1,5 +1,5 @@
 -- From the records of each table to those of all.
-use Rattle.std.proofs.Common.{◌≡◌, ◌≢◌, inl, inr, ℕ, ◌<◌, ◌^◌, Bool, false, IsTrue, List, [], ◌∷◌, codes, sym, subst, ◌∙◌, true≢false}
+use Rattle.std.proofs.Common.{◌≡◌, ◌≢◌, inl, inr, ℕ, ◌<◌, ◌^◌, Bool, true, false, ◌&&◌, IsTrue, ◌↔◌, List, [], ◌∷◌, Option, None, Some, is_some, Vec, codes, refl, sym, subst, ◌∙◌, true≢false}
 use Rattle.std.specs.List.{AllByRecursion}
 use Rattle.sqlite_schema.specs.declared.schema.Schema.{Schema}
 use Rattle.sqlite.specs.Effect.{Database}
@@ -9,11 +9,14 @@ use Rattle.dh_rows.specs.Shapes.{StandsAlone}
 use Rattle.dh_records.specs.Constraints.{KeepsConstraints}
 use Rattle.dh_records.specs.Lists.{Lists, base_of}
 use Rattle.dh_records.proofs.BaseLemmas.{base_constraints, constraints_of_base}
-use Rattle.dh_records.specs.Codings.{passes}
-use Rattle.dh_records.specs.Typed.{IsPass}
-use Rattle.dh_schema.specs.Making.{CanAdd, derived_tables}
+use Rattle.dh_records.specs.Codings.{aliases, passes, routes}
+use Rattle.dh_records.specs.Typed.{IsAlias, IsPass, IsRoute}
+use Rattle.dh_records.specs.declared.records.AliasRow.{AliasRow}
+use Rattle.dh_records.specs.declared.records.RouteRow.{RouteRow}
+use Rattle.dh_schema.specs.Making.{derived_tables}
 use Rattle.dh_schema.specs.Tables.{lists_of, meta, meta_table, pass_table}
-use Rattle.dh_opening.specs.Opening.{AreKeptIn, AreSpelled, IsNumbered, IsOurs, MayDerive, StandFor, other_tables}
+use Rattle.dh_opening.specs.Opening.{AreKeptIn, AreSpelled, CanDeriveAnew, HasDerived, IsDerivedBy, IsNumbered, IsOurs, IsSpelledBy, MayDerive, StandFor, other_tables}
+use Rattle.dh_opening.specs.Filling.{LacksDerived}
 
 -- the one row of the table with the number
 abbrev pub Numbers : Database → List ℕ → Type 0
@@ -101,7 +104,37 @@ not_alone P b schema seen all same none alone = true≢false (sym (all (subst P 
 pub own_records : {X : Type 0} {c : Coding X} {P : X → Type 0} {name : List ℕ} {db : Database} {xs : List X} → StandFor c P name db xs → StandFor c P name db (records_of c name db)
 own_records {c = c} {P = P} {name = name} {db = db} it = subst (StandFor c P name db) (sym it.records) it
 
--- tables of derived records that are not as they are made, and cannot be added
-pub none_derived : (db : Database) (seen : Schema) → seen ≡ db.schema → (stand add : Bool) → (AllByRecursion (StandsAlone seen) derived_tables → IsTrue stand) → (CanAdd seen → IsTrue add) → stand ≡ false → add ≡ false → ¬ MayDerive db
-none_derived db seen same stand add stands adds unmade full (inl has) = not_alone (λ s. AllByRecursion (StandsAlone s) derived_tables) stand seen db.schema stands same unmade has.alone
-none_derived db seen same stand add stands adds unmade full (inr can) = not_alone CanAdd add seen db.schema adds same full can
+-- tables of derived records that do not stand with records, and cannot be made anew
+pub none_derived : (db : Database) (seen : Schema) → seen ≡ db.schema → (anew : Bool) → (CanDeriveAnew seen → IsTrue anew) → anew ≡ false → ¬ HasDerived db → ¬ MayDerive db
+none_derived db seen same anew can full lacks (inl has) = lacks has
+none_derived db seen same anew can full lacks (inr may) = not_alone CanDeriveAnew anew seen db.schema can same full may
+
+-- those that stand with records, or can be made anew
+pub may_derive : (db : Database) (derived : Bool) → IsDerivedBy derived db → MayDerive db
+may_derive db true has = inl has
+may_derive db false lacks = inr lacks.1
+
+-- those of tables of ours that lack them can be made anew
+pub lacks_anew : (db : Database) → LacksDerived db → IsDerivedBy false db
+lacks_anew db lacks = (
+  lacks.1,
+  elim lacks.0.derived [
+    | inl has ↦ absurd (lacks.1 has)
+    | inr can ↦ can
+  ],
+)
+
+-- ---- the tables of derived records by what is read of them
+
+module _ {X Z : Type 0} {c : Coding X} {P : X → Type 0} {name : List ℕ} {db : Database} where
+  -- a table spells records where some are told
+  pub spells_told : (o : Option (Vec X Z)) → IsSpelledBy c P name db o → (IsTrue (is_some o) ↔ ((xs : List X) × StandFor c P name db xs))
+  spells_told (Some v) it = ((λ _. (v.items, it)), λ _. refl)
+  spells_told None it = ((λ some. absurd (true≢false (sym some))), λ has. absurd (it has.0 has.1))
+
+-- both spell records
+pub both_derived : (db : Database) → AllByRecursion (StandsAlone db.schema) derived_tables → (a b : Bool) → (IsTrue a ↔ ((xs : List AliasRow) × StandFor aliases IsAlias (codes "alias") db xs)) → (IsTrue b ↔ ((xs : List RouteRow) × StandFor routes IsRoute (codes "route") db xs))
+    → (IsTrue (a && b) ↔ HasDerived db)
+both_derived db alone true true names ways = ((λ _. record { alone = alone; aliases = own_records (names.0 refl).1; routes = own_records (ways.0 refl).1 }), λ _. refl)
+both_derived db alone true false names ways = ((λ both. absurd (true≢false (sym both))), λ has. ways.1 ((lists_of db).routes, has.routes))
+both_derived db alone false b names ways = ((λ both. absurd (true≢false (sym both))), λ has. names.1 ((lists_of db).aliases, has.aliases))

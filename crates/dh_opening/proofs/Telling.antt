@@ -1,5 +1,5 @@
 -- From what two queries of a table answer to what the table is.
-use Rattle.std.proofs.Common.{◌≡◌, ℕ, List, [], ◌∷◌, Option, None, Some, IsSome, sym, subst, true≢false}
+use Rattle.std.proofs.Common.{◌≡◌, ℕ, List, [], ◌∷◌, Option, None, Some, IsSome, IfSome, Vec, refl, sym, subst, true≢false}
 use Rattle.sqlite_value.specs.Order.{Row}
 use Rattle.sqlite_schema.specs.declared.schema.Table.{Table}
 use Rattle.sqlite.specs.State.{State}
@@ -7,7 +7,7 @@ use Rattle.dh_rows.specs.Keyed.{Coding}
 use Rattle.dh_rows.specs.Shapes.{StandsAlone}
 use Rattle.dh_rows.specs.Whole.{SpellsRecords}
 use Rattle.dh_rows.proofs.Whole.{AreTextsOf, IsCodingOf, SuitsSelect, asks_ids, asks_all, spelled, spells}
-use Rattle.dh_opening.specs.Opening.{AnswersQuery, AreLaid, AreTold, IsWhole, StandFor}
+use Rattle.dh_opening.specs.Opening.{AnswersQuery, AreLaid, AreTold, IsSpelledBy, IsWhole, StandFor}
 
 -- a query that only a limit on steps refuses is refused by none
 as_whole : (s : State) (text : List ℕ) → s.step_limit ≡ None → SuitsSelect s text → IsWhole s text
@@ -40,3 +40,8 @@ module _ {t : Table} {ids rows order : List ℕ} (reads : AreTextsOf t ids rows 
 
     pub stand_for_none : ((xs : List X) → ¬ AreTold c typed first second xs) → (xs : List X) → ¬ StandFor c typed t.name s.now xs
     stand_for_none none xs it = none xs (told_of xs it)
+
+    -- what is told, or that nothing is
+    pub told_or_none : {Z : Type 0} (o : Option (Vec X Z)) → IfSome o (λ v. AreTold c typed first second v.items) → (o ≡ None → (xs : List X) → ¬ AreTold c typed first second xs) → IsSpelledBy c typed t.name s.now o
+    told_or_none (Some v) some none = stand_for v.items some
+    told_or_none None some none = stand_for_none (none refl)

@@ -1,5 +1,5 @@
 -- Pages that are judged row by row, and kept without their bodies.
-use Rattle.std.proofs.Common.{◌≡◌, ℕ, Bool, true, false, ◌&&◌, List, [], ◌∷◌, ◌++◌, map, Some, None, IsTrue, refl, sym, subst, subst₂, ap, ◌∙◌, true≢false}
+use Rattle.std.proofs.Common.{◌≡◌, ℕ, Bool, true, false, ◌&&◌, List, [], ◌∷◌, ◌++◌, map, None, IsTrue, refl, sym, subst, subst₂, ap, ◌∙◌, true≢false}
 use Rattle.std.specs.List.{AllByRecursion}
 use Rattle.sqlite_value.specs.Order.{Row}
 use Rattle.sqlite_keyed.proofs.ListLemmas.{all_map, all_unmap, all_weaker, ascending-map}
@@ -18,7 +18,7 @@ use Rattle.sqlite.specs.Effect.{Database}
 use Rattle.dh_opening.specs.declared.thin_pages.ThinPages.{ThinPages}
 use Rattle.dh_opening.proofs.JudgedLemmas.{map_more, next_more}
 use Rattle.dh_opening.specs.Judged.{IsNewest}
-use Rattle.dh_opening.specs.ThinPages.{AreFitPages, AreThinIn, FindsNext, HasFound, IsFit, TookPages, made_whole, thin, thinned}
+use Rattle.dh_opening.specs.ThinPages.{AreThinIn, FindsNext, HasFound, IsFit, TookPages, made_whole, thin, thinned}
 
 -- ---- rows that are taken
 

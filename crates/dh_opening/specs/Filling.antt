@@ -1,28 +1,41 @@
--- What a database becomes whose tables of derived records are added where they are missing.
-use Rattle.std.specs.Prelude.{◌≡◌, ◌⊎◌, false, [], Result, Ok, Err, OnOk, OnErr, ⊤}
+-- What a database becomes whose tables of derived records are made anew where they do not stand with records.
+use Rattle.std.specs.Prelude.{◌≡◌, ◌⊎◌, Bool, true, false, [], Result, Ok, Err, OnOk, OnErr, ⊤}
+use Rattle.std.specs.List.{AllByRecursion}
+use Rattle.sqlite_schema.specs.declared.schema.Table.{Table}
+use Rattle.sqlite_schema.specs.Names.{same_name}
 use Rattle.sqlite_trees.specs.declared.store.Store.{Ghosts}
 use Rattle.sqlite.specs.Effect.{Database}
 use Rattle.sqlite.specs.Held.{Held, state}
 use Rattle.sqlite.specs.State.{HasCleanDisk}
 use Rattle.dh_rows.specs.Calls.{IsBlamed, IsHonest, KeepsFaults, LeavesNoMore, LeavesTrees}
+use Rattle.dh_rows.specs.Places.{StandsInSchema, rows_of}
 use Rattle.dh_records.specs.Constraints.{KeepsConstraints}
 use Rattle.dh_records.specs.Lists.{Lists, base_of}
-use Rattle.dh_schema.specs.Making.{CanAdd, IsAdded, added_tables}
+use Rattle.dh_schema.specs.Making.{added_tables, derived_tables}
 use Rattle.dh_schema.specs.Tables.{HoldsTables, lists_of}
 use Rattle.dh_opening.specs.declared.fault.TablesFault.{TablesFault}
 use Rattle.dh_opening.specs.declared.fault.TablesFault.TheVariants.{NotOurs, OldSchema, Failed}
 use Rattle.dh_opening.specs.Opening.{HasDerived, IsNumbered, IsOurs, OnFailed, OnNotOurs, OnOldSchema}
 
--- the tables of derived records are added where they can be, and else all is as it was
-abbrev pub IsFilled : Database → Database → Type 0
-IsFilled before after =
-    (CanAdd before.schema × IsAdded added_tables [] before after) ⊎ ((¬ CanAdd before.schema) × (after ≡ before))
+-- the table is none of those of derived records
+abbrev pub IsNotDerived : Table → Type 0
+IsNotDerived u = AllByRecursion (λ t. same_name u.name t.name ≡ false) derived_tables
 
--- The derived records are those that were there, or none where there was no place for any.
+-- The tables of derived records stand with no row, and each other table that stood stands with its rows.
+pub record AreMadeAnew (before after : Database) : Type 0 where
+  pub made : AllByRecursion (λ t. StandsInSchema after.schema t × (rows_of after t.name ≡ [])) added_tables
+  pub others : (u : Table) → StandsInSchema before.schema u → IsNotDerived u → StandsInSchema after.schema u × (rows_of after u.name ≡ rows_of before u.name)
+
+-- where the tables of derived records stand all is as it was, and else they are made anew
+abbrev pub IsFilled : Bool → Database → Database → Type 0
+IsFilled true before after = after ≡ before
+IsFilled false before after = AreMadeAnew before after
+
+-- The derived records are those that were there, or none where the tables did not stand with records.
 abbrev pub KeepsDerived : Database → Lists → Type 0
 KeepsDerived before lists =
     (HasDerived before × (lists.aliases ≡ (lists_of before).aliases) × (lists.routes ≡ (lists_of before).routes))
-    ⊎ (CanAdd before.schema × (lists.aliases ≡ []) × (lists.routes ≡ []))
+    ⊎ ((¬ HasDerived before) × (lists.aliases ≡ []) × (lists.routes ≡ []))
 
 -- Our tables with these records, which keep the constraints, beside the derived ones that were there.
 pub record IsBrought (lists : Lists) (before after : Database) : Type 0 where
@@ -35,20 +48,20 @@ pub record IsBrought (lists : Lists) (before after : Database) : Type 0 where
 abbrev pub IsOpened : Database → Database → Type 0
 IsOpened before after = IsOurs before × IsBrought (base_of (lists_of before)) before after
 
--- Tables of ours to which those of derived records are still to be added.
+-- Tables of ours beside which those of derived records are missing, or have a row of no record.
 abbrev pub LacksDerived : Database → Type 0
-LacksDerived db = IsOurs db × CanAdd db.schema
+LacksDerived db = IsOurs db × (¬ HasDerived db)
 
--- Nothing is added where the tables are found not to be ours, or of schema 1, or where none can be added.
-abbrev pub AddsNothing : TablesFault → Database → Type 0
-AddsNothing NotOurs db = ⊤
-AddsNothing OldSchema db = ⊤
-AddsNothing (Failed fault) db = ¬ CanAdd db.schema
+-- Nothing is changed where the tables are found not to be ours, or of schema 1, or where those of derived records stand.
+abbrev pub ChangesNothing : TablesFault → Database → Type 0
+ChangesNothing NotOurs db = ⊤
+ChangesNothing OldSchema db = ⊤
+ChangesNothing (Failed fault) db = ¬ LacksDerived db
 
--- nothing is added, by the answer
-abbrev pub IsNothingAdded : {T : Type 0} → Result T TablesFault → Database → Type 0
-IsNothingAdded (Ok x) db = ¬ CanAdd db.schema
-IsNothingAdded (Err e) db = AddsNothing e db
+-- nothing is changed, by the answer
+abbrev pub IsNothingChanged : {T : Type 0} → Result T TablesFault → Database → Type 0
+IsNothingChanged (Ok x) db = ¬ LacksDerived db
+IsNothingChanged (Err e) db = ChangesNothing e db
 
 module _ {S : Type 0} (g : Ghosts S) where
   -- The store is honest, no transaction is open, and what is seen was committed.
@@ -82,11 +95,11 @@ module _ {S : Type 0} (g : Ghosts S) where
       pub told : HasCleanDisk (state g new) → OnFailed result (IsBlamed g old new ⊎ F)
       pub crash : LeavesBrought R
 
-    -- What opening tables leaves, those of derived records being added where they are missing.
+    -- What opening tables leaves, those of derived records being made anew where they do not stand with records.
     pub record OpensTables (result : Result (Unit {0}) TablesFault) : Type 0 where
       pub brings
           : BringsBy result IsOpened (¬ IsOurs (state g old).now × ¬ IsNumbered (state g old).now 1)
           (LacksDerived (state g old).now)
       pub numbered : HasCleanDisk (state g new) → OnOldSchema result (IsNumbered (state g old).now 1)
-      -- where nothing is added a crash leaves nothing more
-      pub quiet : IsNothingAdded result (state g old).now → IsHonest g old → LeavesNoMore g old new
+      -- where nothing is changed a crash leaves nothing more
+      pub quiet : IsNothingChanged result (state g old).now → IsHonest g old → LeavesNoMore g old new

@@ -7,4 +7,5 @@ pub mod ThinPages
 pub mod RetryKeys
 pub mod Rowids
 pub mod Migrating
+pub mod Dropping
 pub mod Filling

@@ -21,7 +21,7 @@ pub record AreOldIn (schema : Schema) : Type 0 where
   pub can : CanConvert schema
 
 -- Tables of schema 1 stand alone, their rows stand for records, and these keep the constraints; those of derived records
--- stand so, too, or can be added.
+-- stand so, too, or can be made anew.
 pub record IsOld (db : Database) : Type 0 where
   pub number : IsNumbered db 1
   pub tables : AreOldIn db.schema

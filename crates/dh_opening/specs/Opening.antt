@@ -1,29 +1,33 @@
 -- What opening the tables finds.
-use Rattle.std.specs.Prelude.{◌≡◌, ◌⊎◌, ℕ, ◌<◌, ◌^◌, Bool, true, false, None, List, [], ◌∷◌, codes, map, Result, Err, IfOk, ⊤}
+use Rattle.std.specs.Prelude.{◌≡◌, ◌⊎◌, ℕ, ◌<◌, ◌^◌, Bool, true, false, Option, None, Some, List, Vec, [], ◌∷◌, codes, map, Result, Err, IfOk, ⊤}
 use Rattle.std.specs.List.{AllByRecursion}
 use Rattle.std.specs.declared.cmp.Ordering.TheVariants.{Less}
 use Rattle.sqlite_value.specs.Order.{Row}
 use Rattle.sqlite_trees.specs.Tree.{IsAscending}
 use Rattle.sqlite_trees.specs.declared.store.Store.{Ghosts}
+use Rattle.sqlite.specs.Does.{lacks_sequence}
 use Rattle.sqlite.specs.Effect.{Database, IsDatabase, Reads}
 use Rattle.sqlite.specs.Held.{Held, state}
 use Rattle.sqlite.specs.Listing.{understood}
 use Rattle.sqlite.specs.State.{State, HasCleanDisk}
 use Rattle.dh_rows.specs.Calls.{MakesNoCommit, LeavesAllAsItWas, RefusalUndoes, IsBlamed, IsHonest, IsPlainLook, IsUnfit, compiled_command, whole}
 use Rattle.dh_rows.specs.Keyed.{Coding, IsTableOf, by_key}
-use Rattle.dh_rows.specs.Places.{records_of, rows_of}
+use Rattle.dh_rows.specs.Places.{IsFree, IsUnmentioned, IsUnshared, records_of, rows_of}
 use Rattle.dh_rows.specs.Shapes.{StandsAlone}
 use Rattle.dh_rows.specs.Whole.{SpellsRecords}
 use Rattle.dh_records.specs.Codings as coding
 use Rattle.dh_records.specs.Constraints.{KeepsConstraints}
 use Rattle.dh_records.specs.Lists.{Lists, base_of}
 use Rattle.dh_records.specs.Typed.{IsProject, IsLanguage, IsVersion, IsPage, IsUsed, IsPick, IsPass, IsHeld, IsRule, IsRedirect, IsAlias, IsRoute}
+use Rattle.sqlite_schema.specs.declared.schema.Schema.{Schema}
 use Rattle.sqlite_schema.specs.declared.schema.Table.{Table}
 use Rattle.dh_schema.specs.Tables.{lists_of, meta, meta_table, rule_table, redirect_table, project_table, lang_table, version_table, page_table, used_table, pick_table, pass_table, holds_table}
-use Rattle.dh_schema.specs.Making.{CanAdd, derived_tables}
+use Rattle.dh_schema.specs.Making.{derived_tables}
 use Rattle.dh_ports.specs.declared.fault.Fault.TheVariants as fault
 use Rattle.dh_opening.specs.declared.fault.TablesFault.{TablesFault}
 use Rattle.dh_opening.specs.declared.fault.TablesFault.TheVariants.{NotOurs, OldSchema, Failed}
+use Rattle.dh_opening.specs.declared.opening.Found.{Found}
+use Rattle.dh_opening.specs.declared.opening.Found.TheVariants.{Old, Ours}
 
 -- ---- records
 
@@ -49,6 +53,11 @@ module _ {X : Type 0} (c : Coding X) (IsTyped : X → Type 0) where
     pub rows : IsTableOf c (rows_of db name)
     pub records : records_of c name db ≡ xs
     pub typed : AllByRecursion IsTyped xs
+
+  -- the rows of the table of this name stand for the records that are told, or for no records where none are
+  abbrev pub IsSpelledBy : {Z : Type 0} → List ℕ → Database → Option (Vec X Z) → Type 0
+  IsSpelledBy name db (Some v) = StandFor name db v.items
+  IsSpelledBy name db None = (xs : List X) → ¬ StandFor name db xs
 
 -- ---- databases
 
@@ -85,12 +94,29 @@ pub record HasDerived (db : Database) : Type 0 where
   pub aliases : StandFor coding.aliases IsAlias (codes "alias") db (lists_of db).aliases
   pub routes : StandFor coding.routes IsRoute (codes "route") db (lists_of db).routes
 
--- The tables of derived records stand alone, and their rows stand for records; or they can be added.
+-- The table stands alone, and no index or view shares its name: it can be dropped by that.
+abbrev pub CanDrop : Schema → Table → Type 0
+CanDrop schema t = StandsAlone schema t × IsUnshared schema t.name
+
+-- The table can be dropped; or it is missing, and nothing has its name or names it, so that it can be made.
+abbrev pub CanMakeAnew : Schema → Table → Type 0
+CanMakeAnew schema t = CanDrop schema t ⊎ (IsFree schema t.name × IsUnmentioned schema t.name)
+
+-- each of the tables of derived records can be made anew, whatever its rows
+abbrev pub CanDeriveAnew : Schema → Type 0
+CanDeriveAnew schema = AllByRecursion (CanMakeAnew schema) derived_tables × (lacks_sequence schema ≡ false)
+
+-- The tables of derived records stand alone, and their rows stand for records; or both can be made anew.
 abbrev pub MayDerive : Database → Type 0
-MayDerive db = HasDerived db ⊎ CanAdd db.schema
+MayDerive db = HasDerived db ⊎ CanDeriveAnew db.schema
+
+-- By the answer, the tables of derived records stand with records, or have to be made anew, and can be.
+abbrev pub IsDerivedBy : Bool → Database → Type 0
+IsDerivedBy true db = HasDerived db
+IsDerivedBy false db = (¬ HasDerived db) × CanDeriveAnew db.schema
 
 -- Our tables stand alone, and their rows stand for records which keep the constraints; the tables of derived records stand so,
--- too, or can be added.
+-- too, or can be made anew: each of them is missing, or stands alone with any rows.
 pub record IsOurs (db : Database) : Type 0 where
   pub number : IsNumbered db 2
   pub alone : AllByRecursion (StandsAlone db.schema) (pass_table ∷ other_tables)
@@ -98,10 +124,10 @@ pub record IsOurs (db : Database) : Type 0 where
   pub kept : AreKeptIn db (base_of (lists_of db))
   pub derived : MayDerive db
 
--- By the answer, the database is ours, or the number of its schema is 1.
-abbrev pub IsOursOrOld : Bool → Database → Type 0
-IsOursOrOld true db = IsOurs db
-IsOursOrOld false db = IsNumbered db 1
+-- By the answer, the number of the schema is 1, or the database is ours, with its tables of derived records or without.
+abbrev pub IsFound : Found → Database → Type 0
+IsFound Old db = IsNumbered db 1
+IsFound (Ours derived) db = IsOurs db × IsDerivedBy derived db
 
 -- Tables stand alone in a sound database, and no statement's steps are limited.
 pub record AreLaid (tables : List Table) (s : State) : Type 0 where

@@ -12,7 +12,7 @@ ghost use Rattle.dh_schema.specs.Tables.{lists_of};
 ghost use Rattle.dh_constraints.specs.Lists.{lists_in};
 ghost use Rattle.dh_migrating.specs.Converting.{CarriesTo, IsConverted, IsConvertible};
 ghost use Rattle.dh_migrating.specs.OldPasses.{old_lists_of};
-ghost use Rattle.dh_opening.specs.Opening.{IsNumbered, IsOurs, OnFailed, OnNotOurs, OnOldSchema, JudgesTables};
+ghost use Rattle.dh_opening.specs.Opening.{IsDerivedBy, IsNumbered, IsOurs, OnFailed, OnNotOurs, OnOldSchema, JudgesTables};
 ghost use Rattle.dh_opening.specs.Filling.{IsAtRest, IsFilled};
 ghost use Rattle.dh_records.specs.declared.records.PageRow.{PageRow};
 ghost use Rattle.dh_records.specs.declared.records.RetryRow.{RetryRow};
@@ -21,7 +21,7 @@ ghost use Rattle.dh_opening.specs.Migrating.{IsBehind, IsMigrated, IsOld, IsShow
 
 use crate::fault::TablesFault;
 use crate::filling::{complete, fill};
-use crate::opening::{check_derived, finish, is_current, kept_records, show_settled};
+use crate::opening::{Found, check_database, check_derived, finish, kept_records, show_settled};
 use crate::shapes::are_old;
 use crate::tables::read_table;
 use dh_constraints::Records;
@@ -33,13 +33,17 @@ use dh_tables::Tables;
 use sqlite::{Alter, Connection};
 use std::alloc::Global;
 
-/// Reads the records of tables of schema 1 where the tables are ours, each pass without an end.
-fn old_records<S: Alter>(conn: &mut Connection<S>, alloc: Global) -> Result<Records, TablesFault>
+/// Reads the records of tables of schema 1 where the tables are ours, each pass without an end. Tells with them whether the
+/// tables of derived records stand with records.
+fn old_records<S: Alter>(
+    conn: &mut Connection<S>,
+    alloc: Global,
+) -> Result<(Records, bool), TablesFault>
     requires unlimited { conn.old.step_limit ≡ None }
     ensures opens { JudgesTables S.Store conn.old conn.new result
-        (λ db records. IsDatabase db × (IsNumbered db 1
+        (λ db found. IsDatabase db × IsDerivedBy found.1 db × (IsNumbered db 1
         → IsOld db × ((pages : List PageRow) × (keys : List RetryRow)
-        × (made_whole pages keys (lists_in records) ≡ old_lists_of db))))
+        × (made_whole pages keys (lists_in found.0) ≡ old_lists_of db))))
         (λ db. ¬ IsOld db) }
 {
     if !are_old(conn.schema()) {
@@ -48,19 +52,23 @@ fn old_records<S: Alter>(conn: &mut Connection<S>, alloc: Global) -> Result<Reco
     let rows: Vec<OldPassRow> = read_table(conn, alloc)?;
     let passes = without_ends(alloc, rows)?;
     let records = kept_records(conn, alloc, passes)?;
-    check_derived(conn, alloc)?;
-    Ok(records)
+    let derived = check_derived(conn, alloc)?;
+    Ok((records, derived))
 }
 
-/// Converts schema 1 to schema 2, with these passes, and adds the tables of derived records where they are missing.
-fn convert_and_fill<S: Alter>(conn: &mut Connection<S>, rows: &[PassRow]) -> Result<(), Fault>
+/// Converts schema 1 to schema 2, with these passes, and makes the tables of derived records anew unless they stand with records.
+fn convert_and_fill<S: Alter>(
+    conn: &mut Connection<S>,
+    rows: &[PassRow],
+    derived: bool,
+) -> Result<(), Fault>
     requires order { InOrder passes.key rows.now }
     requires old { IsHonest S.Store conn.old → IsConvertible (state S.Store conn.old).now }
     ensures carries { CarriesTo S.Store conn.old conn.new result (λ after. (between : Database)
-        × IsConverted rows.now (state S.Store conn.old).now between × IsFilled between after) }
+        × IsConverted rows.now (state S.Store conn.old).now between × IsFilled derived between after) }
 {
     convert(conn, rows)?;
-    fill(conn)
+    fill(conn, derived)
 }
 
 /// Converts the tables to schema 2, within a transaction.
@@ -78,8 +86,8 @@ fn convert_tables<S: Alter>(conn: &mut Connection<S>, alloc: Global) -> Result<(
         (IsBlamed S.Store conn.old conn.new ⊎ IsBehind (state S.Store conn.old).now) }
     ensures current { OnOldSchema result ⊥ }
 {
-    let records = old_records(conn, alloc)?;
-    match convert_and_fill(conn, records.passes.as_slice()) {
+    let (records, derived) = old_records(conn, alloc)?;
+    match convert_and_fill(conn, records.passes.as_slice(), derived) {
         Ok(()) => Ok(()),
         Err(fault) => Err(TablesFault::Failed(fault)),
     }
@@ -111,8 +119,8 @@ fn migrate_tables<S: Alter>(conn: &mut Connection<S>, alloc: Global) -> Result<(
     Ok(())
 }
 
-/// Checks that tables of schema 2 are ours, or converts tables of schema 1 to schema 2; adds the tables of derived records where
-/// they are missing.
+/// Checks that tables of schema 2 are ours, or converts tables of schema 1 to schema 2; makes the tables of derived records anew
+/// where they do not stand with records.
 fn update<S: Alter>(conn: &mut Connection<S>, alloc: Global) -> Result<(), TablesFault>
     requires outside { conn.old.in_transaction ≡ false }
     requires unlimited { conn.old.step_limit ≡ None }
@@ -120,15 +128,14 @@ fn update<S: Alter>(conn: &mut Connection<S>, alloc: Global) -> Result<(), Table
         → (state S.Store conn.old).now ≡ (state S.Store conn.old).committed }
     ensures migrates { MigratesTables S.Store conn.old conn.new result }
 {
-    if is_current(conn, alloc)? {
-        complete(conn)
-    } else {
-        migrate_tables(conn, alloc)
+    match check_database(conn, alloc)? {
+        Found::Old => migrate_tables(conn, alloc),
+        Found::Ours(derived) => complete(conn, derived),
     }
 }
 
 /// Opens the tables that stand in a database, as `open` does. Tables of schema 1 are first converted to schema 2, in one
-/// transaction: the same records, each pass without an end. The tables of derived records are added where they are missing.
+/// transaction: the same records, each pass without an end. The tables of derived records are made anew where `open` does so.
 /// Tables that are not ours are left as they are. A connection that is handed back may still be in the transaction.
 pub fn migrate<S: Alter>(
     alloc: Global,

@@ -1,27 +1,27 @@
 //! Our tables in a database: made where there is none of them, and opened where they stand.
 
-ghost use Rattle.std.specs.Prelude.{◌≡◌, ◌≢◌, ◌⊎◌, false, None, IfErr, IfOk, IsTrue};
+ghost use Rattle.std.specs.Prelude.{◌≡◌, ◌≢◌, ◌⊎◌, ◌↔◌, false, None, IfErr, IfOk, IsTrue};
 ghost use Rattle.sqlite.specs.Held.{state};
 ghost use Rattle.sqlite.specs.State.{HasCleanDisk};
 ghost use Rattle.dh_rows.specs.Calls.{AreOurs, IsBlamed, IsHonest, LeavesCommitted, LeavesNoMore, committed, seen_now};
 ghost use Rattle.dh_records.specs.Codings as coding;
 ghost use Rattle.dh_records.specs.Constraints.{AreInOrder, InOrder, KeepsConstraints};
 ghost use Rattle.dh_records.specs.Lists.{Lists, base_of};
-ghost use Rattle.dh_schema.specs.Making.{CanAdd, CanMake, CommitsNothing, IsMade, no_lists};
+ghost use Rattle.dh_schema.specs.Making.{CanMake, CommitsNothing, IsMade, no_lists};
 ghost use Rattle.dh_schema.specs.Tables.{HoldsTables, lists_of};
 ghost use Rattle.dh_constraints.specs.Lists.{lists_in};
-ghost use Rattle.dh_opening.specs.Opening.{AreKeptIn, AreLaid, IsOursOrOld, IsNumbered, IsOurs, MayDerive, JudgesTables, other_tables};
+ghost use Rattle.dh_opening.specs.Opening.{AreKeptIn, AreLaid, HasDerived, IsDerivedBy, IsFound, IsNumbered, IsOurs, MayDerive, JudgesTables, other_tables};
 ghost use Rattle.dh_opening.specs.ThinPages.{AreKeptWhole};
-ghost use Rattle.dh_opening.specs.Filling.{AddsNothing, IsOpened, KeepsDerived, LacksDerived, LeavesOpened, OpensTables};
+ghost use Rattle.dh_opening.specs.Filling.{ChangesNothing, IsOpened, KeepsDerived, LacksDerived, LeavesOpened, OpensTables};
 
 use crate::fault::TablesFault;
 use crate::filling::complete;
-use crate::shapes::{are_ours, derived_stand};
-use crate::tables::{all_records, number_of, read_table, read_two};
+use crate::shapes::{are_ours, can_derive_anew, derived_stand};
+use crate::tables::{all_records, has_derived, number_of, read_table};
 use dh_constraints::{Records, keep_constraints};
 use dh_ports::Fault;
-use dh_records::{AliasRow, PassRow, RouteRow};
-use dh_schema::{can_add, can_make, make_at_once};
+use dh_records::PassRow;
+use dh_schema::{can_make, make_at_once};
 use dh_tables::Tables;
 use sqlite::{Alter, Connection};
 use std::alloc::Global;
@@ -48,32 +48,45 @@ pub(crate) fn kept_records<S: Alter>(
     }
 }
 
-/// Checks that the tables of derived records are as they are made and their rows spell records, or that they can be added.
-pub(crate) fn check_derived<S: Alter>(
-    conn: &mut Connection<S>,
-    alloc: Global,
-) -> Result<(), TablesFault>
+/// Whether the tables of derived records are as they are made and their rows spell records.
+fn keeps_derived<S: Alter>(conn: &mut Connection<S>, alloc: Global) -> Result<bool, TablesFault>
     requires unlimited { conn.old.step_limit ≡ None }
     requires live { HasCleanDisk (state S.Store conn.old) → IsHonest S.Store conn.old }
     ensures opens { JudgesTables S.Store conn.old conn.new result
-        (λ db _. MayDerive db) (λ db. ¬ MayDerive db) }
+        (λ db keeps. IsTrue keeps ↔ HasDerived db) (λ _. ⊥) }
 {
-    let schema = conn.schema();
-    if can_add(schema) {
-        return Ok(());
+    if derived_stand(conn.schema()) {
+        has_derived(conn, alloc)
+    } else {
+        Ok(false)
     }
-    if !derived_stand(schema) {
-        return Err(TablesFault::NotOurs);
-    }
-    read_two::<S, AliasRow, RouteRow>(conn, alloc)?;
-    Ok(())
 }
 
-/// Checks that tables of schema 2 are ours.
-fn check_tables<S: Alter>(conn: &mut Connection<S>, alloc: Global) -> Result<(), TablesFault>
+/// Checks that the tables of derived records are as they are made and their rows spell records, or that they can be made anew.
+/// Answers false where they have to be.
+pub(crate) fn check_derived<S: Alter>(
+    conn: &mut Connection<S>,
+    alloc: Global,
+) -> Result<bool, TablesFault>
+    requires unlimited { conn.old.step_limit ≡ None }
+    requires live { HasCleanDisk (state S.Store conn.old) → IsHonest S.Store conn.old }
+    ensures opens { JudgesTables S.Store conn.old conn.new result
+        (λ db derived. IsDerivedBy derived db) (λ db. ¬ MayDerive db) }
+{
+    if keeps_derived(conn, alloc)? {
+        Ok(true)
+    } else if can_derive_anew(conn.schema()) {
+        Ok(false)
+    } else {
+        Err(TablesFault::NotOurs)
+    }
+}
+
+/// Checks that tables of schema 2 are ours. Answers false where those of derived records have to be made anew.
+fn check_tables<S: Alter>(conn: &mut Connection<S>, alloc: Global) -> Result<bool, TablesFault>
     requires unlimited { conn.old.step_limit ≡ None }
     ensures opens { JudgesTables S.Store conn.old conn.new result
-        (λ db _. IsNumbered db 2 → IsOurs db) (λ db. ¬ IsOurs db) }
+        (λ db derived. IsDerivedBy derived db × (IsNumbered db 2 → IsOurs db)) (λ db. ¬ IsOurs db) }
 {
     if !are_ours(conn.schema()) {
         return Err(TablesFault::NotOurs);
@@ -83,23 +96,29 @@ fn check_tables<S: Alter>(conn: &mut Connection<S>, alloc: Global) -> Result<(),
     check_derived(conn, alloc)
 }
 
-/// Whether a database is ours: the number of the schema, the tables as they are made and nothing of others on them, and rows
-/// that spell records which keep the constraints; the tables of derived records may be missing. Answers false for the number 1,
-/// and then reads nothing else. Changes nothing.
-pub(crate) fn is_current<S: Alter>(
+/// What a look at a database finds.
+#[derive(Clone, Copy)]
+pub enum Found {
+    /// Tables of schema 1, of which only the number was read.
+    Old,
+    /// Tables of ours; false where those of derived records have to be made anew.
+    Ours(bool),
+}
+
+/// Finds out whether a database is ours: the number of the schema, the tables as they are made and nothing of others on them,
+/// and rows that spell records which keep the constraints; the tables of derived records may be missing, and have any rows. Reads
+/// nothing else where the number is 1. Changes nothing.
+pub(crate) fn check_database<S: Alter>(
     conn: &mut Connection<S>,
     alloc: Global,
-) -> Result<bool, TablesFault>
+) -> Result<Found, TablesFault>
     requires unlimited { conn.old.step_limit ≡ None }
     ensures opens { JudgesTables S.Store conn.old conn.new result
-        (λ db is_current. IsOursOrOld is_current db) (λ db. ¬ IsOurs db × ¬ IsNumbered db 1) }
+        (λ db found. IsFound found db) (λ db. ¬ IsOurs db × ¬ IsNumbered db 1) }
 {
     match number_of(conn, alloc)? {
-        1 => Ok(false),
-        2 => {
-            check_tables(conn, alloc)?;
-            Ok(true)
-        }
+        1 => Ok(Found::Old),
+        2 => Ok(Found::Ours(check_tables(conn, alloc)?)),
         _ => Err(TablesFault::NotOurs),
     }
 }
@@ -153,7 +172,7 @@ pub(crate) fn finish<S: Alter>(conn: Connection<S>) -> Tables<S>
     Tables::over(conn)
 }
 
-/// Checks that tables of schema 2 are ours, and adds those of derived records where they are missing.
+/// Checks that tables of schema 2 are ours, and makes those of derived records anew where they do not stand with records.
 fn open_tables<S: Alter>(conn: &mut Connection<S>, alloc: Global) -> Result<(), TablesFault>
     requires outside { conn.old.in_transaction ≡ false }
     requires unlimited { conn.old.step_limit ≡ None }
@@ -161,18 +180,18 @@ fn open_tables<S: Alter>(conn: &mut Connection<S>, alloc: Global) -> Result<(), 
         → (state S.Store conn.old).now ≡ (state S.Store conn.old).committed }
     ensures opens { OpensTables S.Store conn.old conn.new result }
 {
-    if is_current(conn, alloc)? {
-        complete(conn)
-    } else {
-        Err(TablesFault::OldSchema)
+    match check_database(conn, alloc)? {
+        Found::Old => Err(TablesFault::OldSchema),
+        Found::Ours(derived) => complete(conn, derived),
     }
 }
 
 /// Opens the tables that stand in a database, over a connection in no transaction. The tables must be as they are made, with
 /// nothing of others on them, and their rows must spell records which keep the constraints; the records stay. Reads each table
-/// whole, and nothing else where the number says schema 1. Where the tables of derived records are missing it adds them, in one
-/// transaction; else it changes nothing. A connection that is handed back may still be in the transaction. The limit on a
-/// statement's steps is cleared, also on a connection that is handed back.
+/// whole, and nothing else where the number says schema 1. Where one of the tables of derived records is missing, or has a row
+/// of no record, it makes both anew with no record in them, in one transaction; else it changes nothing. A connection that is
+/// handed back may still be in the transaction. The limit on a statement's steps is cleared, also on a connection that is handed
+/// back.
 pub fn open<S: Alter>(
     alloc: Global,
     conn: Connection<S>,
@@ -192,7 +211,7 @@ pub fn open<S: Alter>(
         → AreInOrder (committed S.Store lists_of t)
         × KeepsConstraints (committed S.Store lists_of t)) }
     ensures left { IfOk result (λ t. IsHonest S.Store t → LeavesCommitted S.Store lists_of t) }
-    ensures quiet { IfOk result (λ t. ¬ CanAdd (state S.Store conn).now.schema
+    ensures quiet { IfOk result (λ t. ¬ LacksDerived (state S.Store conn).now
         → IsHonest S.Store conn → LeavesNoMore S.Store conn t) }
     ensures crash { IfOk result (λ t. LeavesOpened S.Store conn t) }
     ensures ours { IfErr result (λ e. HasCleanDisk (state S.Store e.1)
@@ -204,7 +223,7 @@ pub fn open<S: Alter>(
         → e.0 ≡ TablesFault.Failed Fault.Store
         → IsBlamed S.Store conn e.1 ⊎ LacksDerived (state S.Store conn).now) }
     ensures back { IfErr result (λ e. IsHonest S.Store e.1 → CommitsNothing S.Store conn e.1) }
-    ensures kept { IfErr result (λ e. AddsNothing e.0 (state S.Store conn).now
+    ensures kept { IfErr result (λ e. ChangesNothing e.0 (state S.Store conn).now
         → IsHonest S.Store conn → LeavesNoMore S.Store conn e.1) }
     ensures stop { IfErr result (λ e. LeavesOpened S.Store conn e.1) }
 {

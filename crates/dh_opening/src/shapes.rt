@@ -7,10 +7,10 @@ ghost use Rattle.dh_schema.specs.Making.{derived_tables};
 ghost use Rattle.dh_schema.specs.Tables.{meta_table, pass_table};
 ghost use Rattle.dh_migrating.specs.OldPasses.{old_pass_table};
 ghost use Rattle.dh_opening.specs.Migrating.{AreOldIn};
-ghost use Rattle.dh_opening.specs.Opening.{other_tables};
+ghost use Rattle.dh_opening.specs.Opening.{CanDeriveAnew, CanDrop, CanMakeAnew, other_tables};
 
 use dh_migrating::can_convert;
-use dh_rows::{Shape, is_table};
+use dh_rows::{Shape, is_free, is_table, is_unmentioned, keeps_counts};
 use sqlite_schema::schema::{Kind, Schema};
 
 /// The shape of the table of the number.
@@ -38,29 +38,29 @@ const OLD_PASS: Shape<'static> = Shape {
     columns: &[(b"host", Kind::Text), (b"pass", Kind::Text)],
 };
 
-/// The shapes of the tables of derived records.
-const DERIVED: [Shape<'static>; 2] = [
-    Shape {
-        name: b"alias",
-        primary: &[1, 2, 3],
-        columns: &[
-            (b"host", Kind::Text),
-            (b"class", Kind::Text),
-            (b"name", Kind::Integer),
-            (b"slug", Kind::Text),
-        ],
-    },
-    Shape {
-        name: b"route",
-        primary: &[1, 2, 3],
-        columns: &[
-            (b"host", Kind::Text),
-            (b"seg", Kind::Text),
-            (b"place", Kind::Integer),
-            (b"force", Kind::Integer),
-        ],
-    },
-];
+/// The shape of the table of aliases.
+pub const ALIAS: Shape<'static> = Shape {
+    name: b"alias",
+    primary: &[1, 2, 3],
+    columns: &[
+        (b"host", Kind::Text),
+        (b"class", Kind::Text),
+        (b"name", Kind::Integer),
+        (b"slug", Kind::Text),
+    ],
+};
+
+/// The shape of the table of routes.
+pub const ROUTE: Shape<'static> = Shape {
+    name: b"route",
+    primary: &[1, 2, 3],
+    columns: &[
+        (b"host", Kind::Text),
+        (b"seg", Kind::Text),
+        (b"place", Kind::Integer),
+        (b"force", Kind::Integer),
+    ],
+};
 
 /// The shapes of our other tables, in the order in which they are made.
 const OTHERS: [Shape<'static>; 9] = [
@@ -193,7 +193,30 @@ fn others_stand(schema: &Schema) -> bool
 pub fn derived_stand(schema: &Schema) -> bool
     ensures { IsTrue result ↔ AllByRecursion (StandsAlone schema.now) derived_tables }
 {
-    all_stand(schema, &DERIVED)
+    is_table(schema, &ALIAS) && is_table(schema, &ROUTE)
+}
+
+/// Whether a table of this shape stands in the schema, alone, and no index or view shares its name.
+pub fn can_drop(schema: &Schema, shape: &Shape<'_>) -> bool
+    ensures { IsTrue result ↔ CanDrop schema.now (table_of shape.now) }
+{
+    is_table(schema, shape)
+        && schema.index_named(shape.name).is_none()
+        && schema.view_named(shape.name).is_none()
+}
+
+/// Whether a table of this shape can be dropped, or is missing and can be made.
+fn can_make_anew(schema: &Schema, shape: &Shape<'_>) -> bool
+    ensures { IsTrue result ↔ CanMakeAnew schema.now (table_of shape.now) }
+{
+    can_drop(schema, shape) || (is_free(schema, shape.name) && is_unmentioned(schema, shape.name))
+}
+
+/// Whether the tables of derived records can be made anew.
+pub fn can_derive_anew(schema: &Schema) -> bool
+    ensures { IsTrue result ↔ CanDeriveAnew schema.now }
+{
+    can_make_anew(schema, &ALIAS) && can_make_anew(schema, &ROUTE) && keeps_counts(schema)
 }
 
 /// Whether the table of passes and our other tables stand in the schema as they are made, alone.

@@ -11,10 +11,11 @@ ghost use Rattle.dh_constraints.specs.Lists.{lists_in};
 ghost use Rattle.std.specs.List.{AllByRecursion};
 ghost use Rattle.dh_rows.specs.Whole.{AreRowids};
 ghost use Rattle.dh_constraints.specs.Keys.{IsFitKey};
+ghost use Rattle.dh_schema.specs.Making.{derived_tables};
 ghost use Rattle.dh_schema.specs.Tables.{page_table, used_table};
 ghost use Rattle.dh_opening.specs.RetryKeys.{HasKeys};
 ghost use Rattle.dh_opening.specs.ThinPages.{AreThinIn, HasPages, HasThin, IsFit};
-ghost use Rattle.dh_opening.specs.Opening.{AnswersQuery, AreLaid, AreSpelled, AreTold, IsNumbered, IsWhole, JudgesTables, StandFor, other_tables};
+ghost use Rattle.dh_opening.specs.Opening.{AnswersQuery, AreLaid, AreSpelled, AreTold, HasDerived, IsNumbered, IsSpelledBy, IsWhole, JudgesTables, StandFor, other_tables};
 
 use crate::fault::TablesFault;
 use crate::gathering::gather;
@@ -25,7 +26,7 @@ use crate::rowids::Rowids;
 use crate::shapes::has_number;
 use crate::thin_pages::ThinPages;
 use dh_constraints::{Projects, Records};
-use dh_records::{PageRow, PassRow, RetryRow};
+use dh_records::{AliasRow, PageRow, PassRow, RetryRow, RouteRow};
 use dh_rows::are_rowids;
 use sqlite::{Alter, Connection, Row};
 use std::alloc::{AllocError, Global};
@@ -60,6 +61,22 @@ fn records_of<R: Kept>(
     }
 }
 
+/// Reads the records of a whole table; none where its rows are not those of such records.
+fn spelled_by<S: Alter, R: Kept>(
+    conn: &mut Connection<S>,
+    alloc: Global,
+) -> Result<Option<Vec<R>>, TablesFault>
+    requires laid { IsHonest S.Store conn.old
+        → AreLaid (R.Kept.table ∷ []) (state S.Store conn.old) }
+    ensures opens { JudgesTables S.Store conn.old conn.new result
+        (IsSpelledBy R.Record.coding R.Record.typed R.Kept.table.name) (λ _. ⊥) }
+    ensures order { IfOk result (λ o. IfSome o (λ v. InOrder R.Record.coding.key v.items)) }
+{
+    let ids = select(conn, R::ids())?;
+    let rows = select(conn, R::rows())?;
+    Ok(records_of(alloc, ids.as_slice(), rows)?)
+}
+
 /// Reads the records of a whole table.
 pub fn read_table<S: Alter, R: Kept>(
     conn: &mut Connection<S>,
@@ -73,12 +90,36 @@ pub fn read_table<S: Alter, R: Kept>(
         → ¬ StandFor R.Record.coding R.Record.typed R.Kept.table.name db xs) }
     ensures order { IfOk result (λ v. InOrder R.Record.coding.key v.items) }
 {
-    let ids = select(conn, R::ids())?;
-    let rows = select(conn, R::rows())?;
-    match records_of(alloc, ids.as_slice(), rows)? {
+    match spelled_by(conn, alloc)? {
         Some(records) => Ok(records),
         None => Err(TablesFault::NotOurs),
     }
+}
+
+/// Whether the rows of a whole table spell records.
+fn spells_table<S: Alter, R: Kept>(
+    conn: &mut Connection<S>,
+    alloc: Global,
+) -> Result<bool, TablesFault>
+    requires laid { IsHonest S.Store conn.old
+        → AreLaid (R.Kept.table ∷ []) (state S.Store conn.old) }
+    ensures opens { JudgesTables S.Store conn.old conn.new result
+        (λ db spells. IsTrue spells ↔ ((xs : List R)
+        × StandFor R.Record.coding R.Record.typed R.Kept.table.name db xs)) (λ _. ⊥) }
+{
+    let records: Option<Vec<R>> = spelled_by(conn, alloc)?;
+    Ok(records.is_some())
+}
+
+/// Whether the rows of the tables of derived records spell records.
+pub fn has_derived<S: Alter>(conn: &mut Connection<S>, alloc: Global) -> Result<bool, TablesFault>
+    requires laid { IsHonest S.Store conn.old → AreLaid derived_tables (state S.Store conn.old) }
+    ensures opens { JudgesTables S.Store conn.old conn.new result
+        (λ db has. IsTrue has ↔ HasDerived db) (λ _. ⊥) }
+{
+    let aliases = spells_table::<S, AliasRow>(conn, alloc)?;
+    let routes = spells_table::<S, RouteRow>(conn, alloc)?;
+    Ok(aliases && routes)
 }
 
 /// Reads the records of two whole tables.

@@ -15,7 +15,7 @@ use Rattle.dh_histories.specs.declared.call.Call.{Call}
 use Rattle.dh_histories.specs.declared.call.Call.TheVariants.{Act, Ask}
 use Rattle.dh_histories.specs.CallsDone.{AreCallsDone, IsCallDone, outcome_of}
 use Rattle.dh_http.specs.Commands.{unavailable}
-use Rattle.dh_http.specs.Answers.{IsReplyTo, MayDoRequest, AnswersRequest, AnswersSource, read_reply}
+use Rattle.dh_http.specs.Answers.{IsReplyTo, MayDoRequest, AnswersRequest, AnswersSource}
 use Rattle.dh_http.specs.declared.fault.Done.{Done}
 use Rattle.dh_http.specs.declared.fault.EngineFault.{EngineFault}
 use Rattle.dh_http.specs.declared.fault.EngineFault.TheVariants as fault

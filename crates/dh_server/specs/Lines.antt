@@ -1,60 +1,43 @@
--- A line of the log.
-use Rattle.std.specs.Prelude.{ℕ, ◌+◌, ◌&&◌, ◌||◌, Bool, List, [], ◌++◌, length, take, drop, map, position, Option, Some, None, Result, Ok, Err, codes, nat_eq, nat_le, if◌then◌else◌}
+-- What the log tells of a request.
+use Rattle.std.specs.Prelude.{ℕ, ◌||◌, Bool, not, List, take, drop, position, Option, Some, None, Result, Ok, Err, codes, nat_eq, nat_le, if◌then◌else◌}
 use Rattle.std.specs.Fmt.{decimal}
+use Rattle.dh_log.specs.Heads.{up_to}
+use Rattle.dh_log.specs.Lines.{shown}
+use Rattle.dh_log.specs.declared.entry.Level.{Level}
+use Rattle.dh_log.specs.declared.entry.Level.TheVariants.{Error, Warning, Info}
 use Rattle.dh_http.specs.declared.fault.Done.{Done}
 use Rattle.dh_http.specs.declared.fault.EngineFault.{EngineFault}
 use Rattle.dh_http.specs.declared.fault.EngineFault.TheVariants as fault
-use Rattle.dh_server.specs.declared.line.Entry.{Entry}
 use Rattle.dh_server.specs.declared.beginning.TheConstants.{MOST_LINE_TOLD}
-
-abbrev pub is_space : ℕ → Bool
-is_space byte = nat_eq byte 32
-
--- visible ASCII stands for itself, and `?` for any other byte
-abbrev pub shown_byte : ℕ → ℕ
-shown_byte byte = if nat_le 33 byte && nat_le byte 126 then byte else 63
-
--- a word as it is shown; `-` for an empty word
-abbrev pub shown_word : List ℕ → List ℕ
-shown_word word = if nat_eq (length word) 0 then codes "-" else map shown_byte word
-
--- what stands before the place, or all where there is no place
-abbrev pub up_to : Option ℕ → List ℕ → List ℕ
-up_to None bytes = bytes
-up_to (Some at) bytes = take at bytes
-
--- what stands behind the place, or nothing where there is no place
-abbrev pub behind_space : Option ℕ → List ℕ → List ℕ
-behind_space None line = []
-behind_space (Some at) line = drop (at + 1) line
-
-abbrev pub first_word : List ℕ → List ℕ
-first_word line = up_to (position is_space line) line
-
-abbrev pub other_words : List ℕ → List ℕ
-other_words line = behind_space (position is_space line) line
 
 abbrev pub ends_line : ℕ → Bool
 ends_line byte = nat_eq byte 13 || nat_eq byte 10
 
+-- what stands at the place and behind it, or all where there is no place
+abbrev pub from_place : Option ℕ → List ℕ → List ℕ
+from_place None bytes = bytes
+from_place (Some at) bytes = drop at bytes
+
+-- what stands behind the empty lines that may come before a request (RFC 9112, section 2.2)
+abbrev pub begun : List ℕ → List ℕ
+begun bytes = from_place (position (λ byte. not (ends_line byte)) bytes) bytes
+
 -- what came up to the first CR or LF, but no more than 2,048 bytes
+abbrev pub line_in : List ℕ → List ℕ
+line_in bytes = take MOST_LINE_TOLD (up_to (position ends_line bytes) bytes)
+
+-- the first line that is not empty
 abbrev pub first_line : List ℕ → List ℕ
-first_line bytes = take MOST_LINE_TOLD (up_to (position ends_line bytes) bytes)
+first_line bytes = line_in (begun bytes)
 
--- the outcome of a connection, the method and the target of its first line, how many bytes it took, in how many microseconds,
--- the host that was asked for, when, and why the request was a bad one
-abbrev pub log_line : List ℕ → Entry → ℕ → ℕ → List ℕ
-log_line told entry bytes micros =
-    told ++ codes " " ++ shown_word (first_word entry.line.now)
-    ++ codes " " ++ shown_word (first_word (other_words entry.line.now))
-    ++ codes " " ++ decimal bytes ++ codes " " ++ decimal micros
-    ++ codes " " ++ shown_word entry.host.now ++ codes " " ++ decimal entry.moment
-    ++ codes " " ++ shown_word entry.reason.now ++ codes "\n"
+-- how grave the end of a request is
+abbrev pub level_of : Result Done EngineFault → Level
+level_of (Ok done) = if nat_le 500 done.status then Error else Info
+level_of (Err fault) = Warning
 
--- how the outcome of a connection is told, or that there was none to answer
-abbrev pub told_as : Option (Result Done EngineFault) → List ℕ
-told_as None = codes "Accept"
-told_as (Some (Ok done)) = decimal done.status
-told_as (Some (Err fault.Read)) = codes "Read"
-told_as (Some (Err (fault.Write n))) = codes "Write"
-told_as (Some (Err fault.TooManyTurns)) = codes "TooManyTurns"
+-- the word that tells the end of a request
+abbrev pub told_as : Result Done EngineFault → List ℕ
+told_as (Ok done) = decimal done.status
+told_as (Err fault.Read) = shown (codes "Read")
+told_as (Err (fault.Write n)) = shown (codes "Write")
+told_as (Err fault.TooManyTurns) = shown (codes "TooManyTurns")

@@ -78,6 +78,11 @@ abbrev pub messages_in : Option Came → ℕ
 messages_in None = 0
 messages_in (Some it) = if is_message it then 1 else 0
 
+-- a connection of the port came
+abbrev pub requests_in : {A : Type 0} → Option A → ℕ
+requests_in None = 0
+requests_in (Some it) = 1
+
 -- some connections of a control socket came, and as many were handed on, where both are counted
 abbrev pub HandsOn : Option ℕ → Option ℕ → Option ℕ → Option ℕ → Type 0
 HandsOn came more handed now =

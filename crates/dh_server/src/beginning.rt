@@ -1,6 +1,7 @@
 //! The beginning of what a source gives.
 
-ghost use Rattle.std.specs.Prelude.{◌≡◌, ◌≤◌, length, position, vec_len};
+ghost use Rattle.std.specs.Prelude.{◌≡◌, ◌≤◌, length, not, position, vec_len};
+ghost use Rattle.dh_log.specs.Heads.{up_to};
 ghost use Rattle.dh_server.specs.Lines as spec;
 ghost use Rattle.dh_requests.specs.declared.head_end.TheConstants.{MOST_HEAD_BYTES};
 
@@ -30,9 +31,26 @@ fn line_end(bytes: &[u8]) -> Option<usize>
     bytes.iter().position(|b| matches!(*b, b'\r' | b'\n'))
 }
 
+/// Where something begins that is no end of a line.
+fn text_start(bytes: &[u8]) -> Option<usize>
+    ensures { result ≡ position (λ byte. not (spec.ends_line byte)) bytes.now }
+{
+    bytes.iter().position(|b| !matches!(*b, b'\r' | b'\n'))
+}
+
+/// What stands behind the empty lines that may come before a request.
+fn begun(bytes: &[u8]) -> &[u8]
+    ensures { result.now ≡ spec.begun bytes.now }
+{
+    match text_start(bytes) {
+        Some(at) => &bytes[at..],
+        None => bytes,
+    }
+}
+
 /// What stands before the end of the first line.
 fn line_of(bytes: &[u8]) -> &[u8]
-    ensures { result.now ≡ spec.up_to (position spec.ends_line bytes.now) bytes.now }
+    ensures { result.now ≡ up_to (position spec.ends_line bytes.now) bytes.now }
 {
     match line_end(bytes) {
         Some(at) => &bytes[..at],
@@ -127,11 +145,11 @@ fn announced(line: &[u8]) -> Option<u64> {
     }
 }
 
-/// How many bytes a request has that begins with these: its head, and the body that the head announces. None where the head does
+/// How many bytes a request has that begins with these: the empty lines before it, its head, and the body that the head announces. None where the head does
 /// not end in these bytes, or does not say how long the body is.
 fn request_size(bytes: &[u8]) -> Option<u64> {
-    let mut size: u64 = 0;
-    for line in bytes.split_inclusive(|b| *b == b'\n') {
+    let mut size = (bytes.len() - begun(bytes).len()) as u64;
+    for line in begun(bytes).split_inclusive(|b| *b == b'\n') {
         let count = (line.len() as u64).saturating_add(announced(line)?);
         size = size.saturating_add(count);
         if is_blank(line) {
@@ -159,12 +177,12 @@ impl Beginning {
         self.count = self.count.saturating_add(came.len() as u64);
     }
 
-    /// The first line, without its end, as far as it came, and at most 2,048 bytes of it.
+    /// The first line that is not empty, without its end, as far as it came, and at most 2,048 bytes of it.
     pub fn first_line(&self) -> &[u8]
         ensures line { result.now ≡ spec.first_line self.now.bytes.items }
         ensures few { length result.now ≤ MOST_LINE_TOLD }
     {
-        let line = line_of(self.bytes.as_slice());
+        let line = line_of(begun(self.bytes.as_slice()));
         &line[..MOST_LINE_TOLD.min(line.len())]
     }
 
@@ -173,7 +191,7 @@ impl Beginning {
     pub fn host(&self) -> &[u8]
         ensures { length result.now ≤ MOST_HOST_TOLD }
     {
-        for line in self.bytes.split_inclusive(|b| *b == b'\n') {
+        for line in begun(self.bytes.as_slice()).split_inclusive(|b| *b == b'\n') {
             if let Some(value) = value_of(line, b"Host") {
                 return &value[..MOST_HOST_TOLD.min(value.len())];
             }

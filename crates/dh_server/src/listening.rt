@@ -2,9 +2,11 @@
 
 ghost use Rattle.std.specs.Prelude.{◌≡◌, ℕ, Option, Some};
 ghost use Rattle.dh_server.specs.Serving as spec;
-ghost use Rattle.dh_server.specs.Serving.{CountsExactly, messages_in};
+ghost use Rattle.dh_server.specs.Serving.{CountsExactly, messages_in, requests_in};
 
-use crate::stream::{accept_message, accept_request, limited, pause, ready};
+use crate::stream::{
+    accept_message, accept_request, begins_as_post, comes_within, limited, pause, ready,
+};
 use std::io;
 use std::net::{TcpListener, TcpStream};
 use std::os::unix::net::{UnixListener, UnixStream};
@@ -46,6 +48,12 @@ pub trait Listen {
         ensures asks { CountsExactly (asked self.old) (asked self.new) 1 }
         ensures gives { CountsExactly (messages self.old) (messages self.new)
             (messages_in result) };
+
+    /// Waits so many milliseconds at most for the next connection, and gives it where its request begins as a POST. Any other
+    /// was not asked for: the next `accept` gives it.
+    fn accept_post(&mut self, patience: i32) -> Option<TcpStream>
+        ensures asks { CountsExactly (asked self.old) (asked self.new) (requests_in result) }
+        ensures same { messages self.new ≡ messages self.old };
 }
 
 /// The connections that come in at a port, and at a control socket where there is one: from each in turn where both have some.
@@ -55,6 +63,8 @@ pub struct Listening<'a> {
     socket: Option<&'a UnixListener>,
     /// Whether the port was tried last.
     socket_first: bool,
+    /// A connection that came and was not asked for yet.
+    waiting: Option<Came>,
     asked: u64,
     messages: u64,
 }
@@ -66,6 +76,7 @@ impl<'a> Listening<'a> {
             port,
             socket: None,
             socket_first: true,
+            waiting: None,
             asked: 0,
             messages: 0,
         }
@@ -82,9 +93,20 @@ impl<'a> Listening<'a> {
             port,
             socket: Some(socket),
             socket_first: true,
+            waiting: None,
             asked: 0,
             messages: 0,
         })
+    }
+
+    /// Has this connection asked for before any other.
+    pub fn put_back(&mut self, came: Option<Came>) {
+        self.waiting = came;
+    }
+
+    /// Gives the connection that came and was not asked for.
+    pub fn into_waiting(self) -> Option<Came> {
+        self.waiting
     }
 
     /// Waits for a connection of the port or the socket, and accepts it: from the socket, unless the socket was tried last and
@@ -128,6 +150,30 @@ impl<'a> Listening<'a> {
         }
         None
     }
+
+    /// Gives the next connection, which may have come already.
+    fn next_waiting(&mut self) -> Option<Came>
+        ensures asked { self.new.asked ≡ self.old.asked }
+        ensures messages { self.new.messages ≡ self.old.messages }
+    {
+        match self.waiting.take() {
+            Some(came) => Some(came),
+            None => self.next_came(),
+        }
+    }
+
+    /// Counts a connection that is asked for.
+    fn count_one(&mut self)
+        ensures counts { CountsExactly (Some self.old.asked) (Some self.new.asked) 1 }
+        ensures messages { self.new.messages ≡ self.old.messages }
+    {
+        self.asked = self.asked.saturating_add(1);
+    }
+
+    /// Whether a connection waits, or comes within so many milliseconds.
+    fn has_next(&self, patience: i32) -> bool {
+        self.waiting.is_some() || comes_within(self.port, self.socket, patience)
+    }
 }
 
 impl<'a> Listen for Listening<'a> {
@@ -136,11 +182,27 @@ impl<'a> Listen for Listening<'a> {
     ghost messages = { λ listening. Some listening.messages };
 
     fn accept(&mut self) -> Option<Came> {
-        self.asked = self.asked.saturating_add(1);
-        let came = limited(self.next_came()?)?;
+        self.count_one();
+        let came = limited(self.next_waiting()?)?;
         if came.is_message() {
             self.messages = self.messages.saturating_add(1);
         }
         Some(came)
+    }
+
+    fn accept_post(&mut self, patience: i32) -> Option<TcpStream> {
+        if !self.has_next(patience) {
+            return None;
+        }
+        match self.next_waiting()? {
+            Came::Request(stream) if begins_as_post(&stream) => {
+                self.count_one();
+                Some(stream)
+            }
+            other => {
+                self.waiting = Some(other);
+                None
+            }
+        }
     }
 }

@@ -1,112 +1,106 @@
-//! A line for each connection.
+//! What the log tells of each connection.
 
-ghost use Rattle.std.specs.Prelude.{◌≡◌, false, IfOk, string_bytes};
-ghost use Rattle.dh_server.specs.Lines.{told_as, log_line};
-ghost use Rattle.dh_server.specs.Telling.{TellsLine};
+ghost use Rattle.std.specs.Prelude.{◌≡◌};
+ghost use Rattle.dh_log.specs.Lines.{shown_word};
+ghost use Rattle.dh_server.specs.Lines as spec;
+ghost use Rattle.dh_server.specs.Telling.{IsEntryOfRequest, IsEntryOfMessage};
 
-use crate::line::{Entry, log_line};
-use crate::telling::put_or_lose;
-use dh_http::{Done, EngineFault};
-use dh_ports::Sink;
-use std::alloc::{AllocError, Global};
+use crate::beginning::Beginning;
+use dh_http::{Done, EngineFault, Note};
+use dh_log::{Answered, Entry, Level, Log, Measured, Ordered, Word};
+use std::io::Write;
 use std::time::{Clock, Instant};
 
-/// Whether connections are told, and the clock for the last figure of their lines.
-///
-/// A line is `STATUS METHOD TARGET BYTES MICROSECONDS HOST MOMENT REASON`. In place of the status stands the fault of a connection
-/// without a whole reply, and `Accept` where there was none to answer. The bytes are those that the connection took, the moment is
-/// in seconds since 1970, and the reason is that of a 400. In a word a byte that is no visible ASCII is a `?`, and `-` stands for
-/// an empty one; of the request's line only the first 2,048 bytes are looked at. A line for which there is no memory, or which the
-/// sink does not take, is lost, and after that sink's fault each line.
-#[derive(Drop)]
-pub struct Log<T> {
-    clock: T,
-    is_on: bool,
+/// Answers the time, where the log is on and the clock tells it.
+pub fn start_of<T: Clock, L: Write>(timer: &T, log: &Log<L>) -> Option<Instant> {
+    if log.is_on() {
+        Instant::now(timer).ok()
+    } else {
+        None
+    }
 }
 
-/// The first word of a line.
-fn told_text(
-    alloc: Global,
-    outcome: Option<Result<Done, EngineFault>>,
-) -> Result<String, AllocError>
-    ensures { IfOk result (λ text. string_bytes text ≡ told_as outcome) }
+/// How many microseconds have passed since then.
+fn micros_since<T: Clock>(timer: &T, start: Option<Instant>) -> u64 {
+    match start {
+        Some(start) => match start.elapsed(timer) {
+            Ok(time) => u64::try_from(time.as_micros()).unwrap_or(u64::MAX),
+            Err(_) => 0,
+        },
+        None => 0,
+    }
+}
+
+/// Measures an answer that is out.
+pub fn measure<T: Clock>(timer: &T, start: Option<Instant>, moment: u64, bytes: u64) -> Measured
+    ensures { result.moment ≡ moment }
 {
-    match outcome {
-        Some(Ok(done)) => format!(in alloc; "{}", done.status),
-        Some(Err(EngineFault::Read)) => String::from_str(alloc, "Read"),
-        Some(Err(EngineFault::Write(_))) => String::from_str(alloc, "Write"),
-        Some(Err(EngineFault::TooManyTurns)) => String::from_str(alloc, "TooManyTurns"),
-        None => String::from_str(alloc, "Accept"),
+    Measured {
+        moment,
+        bytes,
+        micros: micros_since(timer, start),
     }
 }
 
-/// Makes the line for a connection.
-fn line_text(
-    alloc: Global,
-    outcome: Option<Result<Done, EngineFault>>,
-    entry: &Entry<'_>,
-    bytes: u64,
-    micros: u64,
-) -> Result<Vec<u8>, AllocError>
-    ensures { IfOk result (λ text. text.items
-        ≡ log_line (told_as outcome) entry.now bytes micros) }
+/// How grave it is how a request ended: a 503 and the like are errors of the server, and a connection without a whole reply is a
+/// warning.
+fn level_of(answered: Result<Done, EngineFault>) -> Level
+    ensures { result ≡ spec.level_of answered }
 {
-    let told = told_text(alloc, outcome)?;
-    log_line(alloc, told.as_str(), entry, bytes, micros)
+    match answered {
+        Ok(done) => {
+            if done.status >= 500 {
+                Level::Error
+            } else {
+                Level::Info
+            }
+        }
+        Err(_) => Level::Warning,
+    }
 }
 
-impl<T: Clock + Copy> Log<T> {
-    /// Makes a log that tells each connection; one that is off tells none, and does not ask the clock.
-    pub fn new(clock: T, is_on: bool) -> Log<T>
-        ensures { result.is_on ≡ is_on }
-    {
-        Log { clock, is_on }
+/// How a request ended, in one word.
+fn outcome_of<'a>(answered: Result<Done, EngineFault>) -> Word<'a>
+    ensures { shown_word result ≡ spec.told_as answered }
+{
+    match answered {
+        Ok(done) => Word::Number(u64::from(done.status)),
+        Err(EngineFault::Read) => Word::Text("Read"),
+        Err(EngineFault::Write(_)) => Word::Text("Write"),
+        Err(EngineFault::TooManyTurns) => Word::Text("TooManyTurns"),
     }
+}
 
-    /// The clock.
-    pub fn clock(&self) -> T {
-        self.clock
+/// Why what came was answered by a 400; empty where it was not.
+fn reason_of(answered: Result<Done, EngineFault>, came: &Beginning) -> &'static str {
+    match answered {
+        Ok(Done { status: 400 }) => came.bad_part(),
+        _ => "",
     }
+}
 
-    /// Answers the time, where the log is on and the clock tells it.
-    pub fn start(&self) -> Option<Instant> {
-        if self.is_on {
-            Instant::now(&self.clock).ok()
-        } else {
-            None
-        }
-    }
+/// Makes the entry of a request, by how it ended, what is noted of it, and how it begins.
+pub fn request_entry<'a>(
+    answered: Result<Done, EngineFault>,
+    note: &'a Note,
+    came: &'a Beginning,
+    measured: Measured,
+) -> Entry<'a>
+    ensures { IsEntryOfRequest answered measured.moment note.now came.now.bytes.items result }
+{
+    let ended = Answered {
+        level: level_of(answered),
+        outcome: outcome_of(answered),
+        reason: reason_of(answered, came),
+        line: came.first_line(),
+        host: came.host(),
+    };
+    Entry::of_request(&ended, note, measured)
+}
 
-    fn micros_since(&self, start: Option<Instant>) -> u64 {
-        match start {
-            Some(start) => match start.elapsed(&self.clock) {
-                Ok(time) => u64::try_from(time.as_micros()).unwrap_or(u64::MAX),
-                Err(_) => 0,
-            },
-            None => 0,
-        }
-    }
-
-    /// Writes the line for a connection.
-    pub fn tell<L: Sink>(
-        &self,
-        alloc: Global,
-        sink: &mut L,
-        outcome: Option<Result<Done, EngineFault>>,
-        entry: &Entry<'_>,
-        bytes: u64,
-        start: Option<Instant>,
-    )
-        ensures line { TellsLine L.broken L.held sink.old sink.new
-            outcome entry.now bytes }
-        ensures off { self.now.is_on ≡ false → sink.new ≡ sink.old }
-    {
-        if !self.is_on || sink.failed() {
-            return;
-        }
-        let micros = self.micros_since(start);
-        if let Ok(text) = line_text(alloc, outcome, entry, bytes, micros) {
-            put_or_lose(sink, text.as_slice());
-        }
-    }
+/// Makes the entry of a message of the control socket.
+pub fn message_entry(ordered: &Ordered, measured: Measured) -> Entry<'_>
+    ensures { IsEntryOfMessage measured.moment ordered.now result }
+{
+    Entry::of_message(ordered, measured)
 }

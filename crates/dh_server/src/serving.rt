@@ -4,39 +4,46 @@ ghost use Rattle.std.specs.Prelude.{◌≡◌, ◌≤◌, true, false, not, drop
 ghost use Rattle.std.specs.Io.KnownBytes.{append_known};
 ghost use Rattle.dh_http.specs.Desk.{WorldGoesBy};
 ghost use Rattle.dh_http.specs.Answers as spec;
-ghost use Rattle.dh_server.specs.Serving.{AnswersConnection, AnswersSome, AsksClock, DoesByCalls, DoesSome, CountsExactly, HandsOn, messages_in, talk_of};
+ghost use Rattle.dh_server.specs.Serving.{AnswersConnection, AnswersSome, AsksClock, DoesByCalls, DoesSome, CountsExactly, HandsOn, messages_in, requests_in, talk_of};
 ghost use Rattle.dh_server.specs.Turns.{ServesOne, ServesInTurn};
-ghost use Rattle.dh_server.specs.Telling.{TellsLineAt, TellsSome};
+ghost use Rattle.dh_server.specs.Telling.{IsEntryOfMessage, IsEntryOfRequest};
+ghost use Rattle.dh_http.specs.Notes.{NotesSource};
+ghost use Rattle.dh_log.specs.Logs.{TellsEntry, TellsMany};
+ghost use Rattle.dh_log.specs.declared.entry.Entry.{Entry};
+ghost use Rattle.dh_log.specs.declared.subject.Note.{Note};
+ghost use Rattle.dh_log.specs.declared.subject.Ordered.{Ordered};
 
 use crate::beginning::{Beginning, Heard};
 use crate::control::Control;
 use crate::counted::Counted;
 use crate::joined::Joined;
-use crate::line::Entry;
 use crate::listening::{Came, Listen};
-use crate::log::Log;
+use crate::log::{measure, message_entry, request_entry, start_of};
 use crate::steady::Steady;
 use crate::stream::read_out;
 use crate::timed::Timed;
-use dh_http::{Desk, Done, EngineFault, answer};
+use dh_http::{Desk, Done, EngineFault, Note, answer};
+use dh_log::{Entry, Log};
 use dh_ports::{Port, Sink, Source};
 use sqlite::Alter;
 use std::alloc::Global;
+use std::io::Write;
 use std::net::TcpStream;
 use std::os::unix::net::UnixStream;
-use std::time::Clock;
+use std::time::{Clock, Instant};
 
 /// How many seconds reading and writing may take.
 const MOST_SECONDS: u64 = 60;
 
 /// Answers one request at a moment, in seconds since 1970, and hands on what the sink kept. The count of a `Write` is of bytes
-/// that the sink took; it may not have handed on all of them.
+/// that the sink took; it may not have handed on all of them. The note is of this request from then on.
 pub fn answer_joined<S: Alter, R: Source, W: Sink>(
     alloc: Global,
     desk: &mut Desk<S>,
     source: &mut R,
     sink: &mut Joined<W>,
     now: u64,
+    note: &mut Note,
 ) -> Result<Done, EngineFault>
     requires reader { R.broken source.old ≡ false }
     requires writer { W.broken sink.old.inner ≡ false }
@@ -44,12 +51,15 @@ pub fn answer_joined<S: Alter, R: Source, W: Sink>(
         (λ before after. AnswersConnection now (R.left source.old)
         (append_known (W.held sink.old.inner) (drop sink.old.gone sink.old.kept.items))
         (W.held sink.new.inner) before after result) }
+    ensures noted { WorldGoesBy S.Store desk.old desk.new
+        (λ before after. NotesSource (R.left source.old) before after note.new) }
     ensures unread { spec.is_unread result ≡ true
         → (desk.new ≡ desk.old) × (sink.new ≡ sink.old) }
+    ensures closed { desk.old.closed ≡ true → desk.new ≡ desk.old }
     ensures reader_fault { R.broken source.new ≡ spec.reader_failed result }
     ensures writer_fault { W.broken sink.new.inner ≡ spec.writer_failed result }
 {
-    let done = answer(alloc, desk, source, sink, now)?;
+    let done = answer(alloc, desk, source, sink, now, note)?;
     match sink.hand_on() {
         Ok(()) => Ok(done),
         Err(count) => Err(EngineFault::Write(count)),
@@ -61,23 +71,16 @@ fn leaves_input(answered: Result<Done, EngineFault>, came: &Beginning) -> bool {
     answered.is_ok() && !came.is_whole()
 }
 
-/// Why what came was answered by a 400; empty where it was not.
-fn reason_of(answered: Result<Done, EngineFault>, came: &Beginning) -> &'static str {
-    match answered {
-        Ok(Done { status: 400 }) => came.bad_part(),
-        _ => "",
-    }
-}
-
-/// Answers the request of a source on a sink at a moment, and writes its line to the log.
-pub fn answer_heard<S: Alter, R: Source, W: Sink, T: Clock + Copy, L: Sink>(
+/// Answers the request of a source on a sink at a moment, and tells it to the log: of a command what is noted of it, and of any
+/// other request how it begins.
+pub fn answer_heard<S: Alter, R: Source, W: Sink, T: Clock + Copy, L: Write>(
     alloc: Global,
     desk: &mut Desk<S>,
     source: &mut Heard<R>,
     sink: &mut Joined<Counted<W>>,
     now: u64,
-    log: &Log<T>,
-    errors: &mut L,
+    timer: T,
+    log: &mut Log<L>,
 ) -> Result<Done, EngineFault>
     requires reader { R.broken source.old.inner ≡ false }
     requires writer { W.broken sink.old.inner.inner ≡ false }
@@ -86,125 +89,139 @@ pub fn answer_heard<S: Alter, R: Source, W: Sink, T: Clock + Copy, L: Sink>(
         (append_known (W.held sink.old.inner.inner) (drop sink.old.gone sink.old.kept.items))
         (W.held sink.new.inner.inner) before after result) }
     ensures some { WorldGoesBy S.Store desk.old desk.new (AnswersSome now (is_ok result)) }
+    ensures closed { desk.old.closed ≡ true → desk.new ≡ desk.old }
     ensures reader_fault { R.broken source.new.inner ≡ spec.reader_failed result }
     ensures writer_fault { W.broken sink.new.inner.inner ≡ spec.writer_failed result }
-    ensures tells { TellsLineAt L.broken L.held errors.old errors.new (Some result) now }
-    ensures off { log.now.is_on ≡ false → errors.new ≡ errors.old }
+    ensures tells { (note : Note) × (entry : Entry)
+        × WorldGoesBy S.Store desk.old desk.new
+        (λ before after. NotesSource (R.left source.old.inner) before after note)
+        × IsEntryOfRequest result now note source.new.beginning.bytes.items entry
+        × TellsEntry L.contents log.old entry log.new }
 {
-    let start = log.start();
-    let result = answer_joined(alloc, desk, source, sink, now);
+    let start = start_of(&timer, log);
+    let mut note = Note::nothing();
+    let result = answer_joined(alloc, desk, source, sink, now, &mut note);
+    let measured = measure(&timer, start, now, sink.inner().count());
     let came = source.beginning();
-    let entry = Entry {
-        line: came.first_line(),
-        host: came.host(),
-        moment: now,
-        reason: reason_of(result, came),
-    };
-    log.tell(
-        alloc,
-        errors,
-        Some(result),
-        &entry,
-        sink.inner().count(),
-        start,
-    );
+    log.tell(alloc, &request_entry(result, &note, came, measured));
     result
 }
 
 /// Answers the request of a connection of the port at a moment, and tells whether the whole answer went out.
-fn answer_stream<S: Alter, T: Clock + Copy, L: Sink>(
+fn answer_stream<S: Alter, T: Clock + Copy, L: Write>(
     alloc: Global,
     desk: &mut Desk<S>,
     stream: &TcpStream,
     now: u64,
-    log: &Log<T>,
-    errors: &mut L,
+    timer: T,
+    log: &mut Log<L>,
 ) -> bool
     ensures answers { WorldGoesBy S.Store desk.old desk.new (AnswersSome now result) }
-    ensures tells { TellsSome L.broken L.held errors.old errors.new }
-    ensures off { log.now.is_on ≡ false → errors.new ≡ errors.old }
+    ensures closed { desk.old.closed ≡ true → desk.new ≡ desk.old }
+    ensures tells { TellsMany L.contents log.old log.new 1 }
 {
-    let input = Timed::new(log.clock(), MOST_SECONDS, Port::new(Steady::new(stream)));
-    let output = Timed::new(log.clock(), MOST_SECONDS, Port::new(Steady::new(stream)));
+    let input = Timed::new(timer, MOST_SECONDS, Port::new(Steady::new(stream)));
+    let output = Timed::new(timer, MOST_SECONDS, Port::new(Steady::new(stream)));
     let mut source = Heard::new(alloc, input);
     let mut sink = Joined::new(alloc, Counted::new(output));
-    let result = answer_heard(alloc, desk, &mut source, &mut sink, now, log, errors);
+    let result = answer_heard(alloc, desk, &mut source, &mut sink, now, timer, log);
     if leaves_input(result, source.beginning()) {
-        read_out(log.clock(), stream);
+        read_out(timer, stream);
     }
     result.is_ok()
 }
 
-/// Has what a source holds done and answered at a moment, and tells whether the whole answer went out.
-pub fn answer_order<S: Alter, K: Control, R: Source, W: Sink>(
+/// Has what a source holds done and answered at a moment, tells it to the log, and tells whether the whole answer went out.
+pub fn answer_order<S: Alter, K: Control, R: Source, W: Sink, T: Clock + Copy, L: Write>(
     alloc: Global,
     desk: &mut Desk<S>,
     control: &mut K,
     source: &mut R,
-    sink: &mut W,
+    sink: &mut Counted<W>,
     now: u64,
+    timer: T,
+    log: &mut Log<L>,
 ) -> bool
     requires reader { R.broken source.old ≡ false }
-    requires writer { W.broken sink.old ≡ false }
+    requires writer { W.broken sink.old.inner ≡ false }
     ensures moves { WorldGoesBy S.Store desk.old desk.new (DoesByCalls (K.does now
-        (talk_of (R.left source.old) (W.held sink.old) (W.held sink.new) (W.broken sink.new)))) }
-    ensures whole { result ≡ not (W.broken sink.new) }
+        (talk_of (R.left source.old) (W.held sink.old.inner) (W.held sink.new.inner)
+        (W.broken sink.new.inner)))) }
+    ensures whole { result ≡ not (W.broken sink.new.inner) }
     ensures counts { CountsExactly (K.handed control.old) (K.handed control.new) 1 }
+    ensures tells { (ordered : Ordered) × (entry : Entry)
+        × K.notes (talk_of (R.left source.old) (W.held sink.old.inner) (W.held sink.new.inner)
+        (W.broken sink.new.inner)) ordered
+        × IsEntryOfMessage now ordered entry
+        × TellsEntry L.contents log.old entry log.new }
 {
-    control.answer(alloc, desk, source, sink, now);
+    let start = start_of(&timer, log);
+    let ordered = control.answer(alloc, desk, source, sink, now, log.is_on());
+    let measured = measure(&timer, start, now, sink.count());
+    log.tell(alloc, &message_entry(&ordered, measured));
     !sink.failed()
 }
 
 /// Has what comes over a connection of the control socket done and answered, at a moment, and tells whether the whole answer went
 /// out. Doing it may take longer than it may take to come.
-fn answer_control<S: Alter, K: Control, T: Clock + Copy>(
+fn answer_control<S: Alter, K: Control, T: Clock + Copy, L: Write>(
     alloc: Global,
     desk: &mut Desk<S>,
     control: &mut K,
     stream: &UnixStream,
     now: u64,
-    clock: T,
+    timer: T,
+    log: &mut Log<L>,
 ) -> bool
     ensures moves { WorldGoesBy S.Store desk.old desk.new (DoesSome K.does now result) }
     ensures counts { CountsExactly (K.handed control.old) (K.handed control.new) 1 }
+    ensures tells { TellsMany L.contents log.old log.new 1 }
 {
-    let mut source = Timed::new(clock, MOST_SECONDS, Port::new(Steady::new(stream)));
-    let mut sink = Port::new(Steady::new(stream));
-    answer_order(alloc, desk, control, &mut source, &mut sink, now)
+    let mut source = Timed::new(timer, MOST_SECONDS, Port::new(Steady::new(stream)));
+    let mut sink = Counted::new(Port::new(Steady::new(stream)));
+    answer_order(
+        alloc,
+        desk,
+        control,
+        &mut source,
+        &mut sink,
+        now,
+        timer,
+        log,
+    )
 }
 
 /// Answers a connection that came, at a moment, and tells whether the whole answer went out.
-fn answer_came<S: Alter, K: Control, T: Clock + Copy, L: Sink>(
+fn answer_came<S: Alter, K: Control, T: Clock + Copy, L: Write>(
     alloc: Global,
     desk: &mut Desk<S>,
     control: &mut K,
     came: Came,
     now: u64,
-    log: &Log<T>,
-    errors: &mut L,
+    timer: T,
+    log: &mut Log<L>,
 ) -> bool
     ensures hears { CountsExactly (K.handed control.old) (K.handed control.new)
         (messages_in (Some came)) }
     ensures turn { WorldGoesBy S.Store desk.old desk.new
         (ServesOne (λ moment. moment ≡ now) K.does result) }
-    ensures tells { TellsSome L.broken L.held errors.old errors.new }
-    ensures off { log.now.is_on ≡ false → errors.new ≡ errors.old }
+    ensures tells { TellsMany L.contents log.old log.new 1 }
 {
     match came {
-        Came::Request(stream) => answer_stream(alloc, desk, &stream, now, log, errors),
-        Came::Message(stream) => answer_control(alloc, desk, control, &stream, now, log.clock()),
+        Came::Request(stream) => answer_stream(alloc, desk, &stream, now, timer, log),
+        Came::Message(stream) => answer_control(alloc, desk, control, &stream, now, timer, log),
     }
 }
 
 /// Answers the next connection, at the moment when it came, and tells whether the whole answer went out.
-fn serve_next<S: Alter, N: Listen, K: Control, C: FnMut() -> u64, T: Clock + Copy, L: Sink>(
+fn serve_next<S: Alter, N: Listen, K: Control, C: FnMut() -> u64, T: Clock + Copy, L: Write>(
     alloc: Global,
     desk: &mut Desk<S>,
     listener: &mut N,
     control: &mut K,
     clock: &mut C,
-    log: &Log<T>,
-    errors: &mut L,
+    timer: T,
+    log: &mut Log<L>,
 ) -> bool
     requires { C.IsAlwaysCallable clock.old }
     ensures asks { CountsExactly (N.asked listener.old) (N.asked listener.new) 1 }
@@ -214,15 +231,14 @@ fn serve_next<S: Alter, N: Listen, K: Control, C: FnMut() -> u64, T: Clock + Cop
         (K.handed control.old) (K.handed control.new) }
     ensures turn { WorldGoesBy S.Store desk.old desk.new
         (ServesOne (λ moment. C.step clock.old moment clock.new) K.does result) }
-    ensures tells { TellsSome L.broken L.held errors.old errors.new }
-    ensures off { log.now.is_on ≡ false → errors.new ≡ errors.old }
+    ensures tells { TellsMany L.contents log.old log.new 1 }
 {
     let came = listener.accept();
     let now = clock();
     match came {
-        Some(came) => answer_came(alloc, desk, control, came, now, log, errors),
+        Some(came) => answer_came(alloc, desk, control, came, now, timer, log),
         None => {
-            log.tell(alloc, errors, None, &Entry::none(now), 0, None);
+            log.tell(alloc, &Entry::of_none(now));
             false
         }
     }
@@ -243,19 +259,51 @@ pub struct Tally {
     pub answered: u32,
 }
 
-/// Accepts connections, one after another, and answers one request on each of the port, which the log tells to `errors`;
-/// `control` answers those of a control socket. The clock gives the seconds since 1970, and is asked once for each. Asks for
-/// `count` connections, and for no more once a fault of the store has closed the desk, when the reply that tells the fault is
-/// out. Answers how many it asked for, and on how many the whole answer went out.
-pub fn serve_on<S: Alter, N: Listen, K: Control, C: FnMut() -> u64, T: Clock + Copy, L: Sink>(
+/// For how many milliseconds behind a fault of the store POSTs are refused without another opening.
+const REFUSING: i32 = 1000;
+
+/// How many of these milliseconds are left. None are where the timer tells no time.
+fn patience_left<T: Clock>(timer: &T, start: Option<Instant>) -> i32 {
+    match start.map(|start| start.elapsed(timer)) {
+        Some(Ok(time)) => REFUSING.saturating_sub(i32::try_from(time.as_millis()).unwrap_or(
+            REFUSING,
+        )),
+        _ => 0,
+    }
+}
+
+/// Waits for the next connection while a server refuses POSTs, and gives it where it is one.
+fn next_post<N: Listen, T: Clock>(
+    listener: &mut N,
+    timer: &T,
+    start: Option<Instant>,
+) -> Option<TcpStream>
+    ensures asks { CountsExactly (N.asked listener.old) (N.asked listener.new) (requests_in result) }
+    ensures same { N.messages listener.new ≡ N.messages listener.old }
+{
+    let patience = patience_left(timer, start);
+    if patience > 0 {
+        listener.accept_post(patience)
+    } else {
+        None
+    }
+}
+
+/// Accepts connections, one after another, and answers one request on each of the port; `control` answers those of a control
+/// socket. The log is told each connection, with the time that it took by `timer`. The clock gives the seconds since 1970, and is
+/// asked once for each. Asks for `count` connections, and for no more once a fault of the store has closed the desk, when the reply
+/// that tells the fault is out: but for those that come within a second and are POSTs, up to the first that is none. These are
+/// refused, so that on a full disk not each upload costs an opening. Answers how many it asked for, and on how many the whole
+/// answer went out.
+pub fn serve_on<S: Alter, N: Listen, K: Control, C: FnMut() -> u64, T: Clock + Copy, L: Write>(
     alloc: Global,
     desk: &mut Desk<S>,
     listener: &mut N,
     control: &mut K,
     clock: &mut C,
     count: u32,
-    log: &Log<T>,
-    errors: &mut L,
+    timer: T,
+    log: &mut Log<L>,
 ) -> Tally
     requires { C.IsAlwaysCallable clock.old }
     ensures asks { CountsExactly (N.asked listener.old) (N.asked listener.new) result.asked }
@@ -269,13 +317,23 @@ pub fn serve_on<S: Alter, N: Listen, K: Control, C: FnMut() -> u64, T: Clock + C
     ensures serves { WorldGoesBy S.Store desk.old desk.new
         (ServesInTurn C.step clock.old clock.new K.does result.asked result.answered) }
     ensures callable { C.IsAlwaysCallable clock.new }
-    ensures tells { TellsSome L.broken L.held errors.old errors.new }
-    ensures off { log.now.is_on ≡ false → errors.new ≡ errors.old }
+    ensures tells { TellsMany L.contents log.old log.new result.asked }
+    ensures off { log.old.is_on ≡ false → log.new ≡ log.old }
 {
     let mut asked = 0;
     let mut answered = 0;
     while asked < count && !desk.is_closed() {
-        let whole = serve_next(alloc, desk, listener, control, clock, log, errors);
+        let whole = serve_next(alloc, desk, listener, control, clock, timer, log);
+        answered += number_of(whole);
+        asked += 1;
+    }
+    let start = Instant::now(&timer).ok();
+    'refusals: while asked > 0 && asked < count && desk.is_closed() {
+        let Some(stream) = next_post(listener, &timer, start) else {
+            break 'refusals;
+        };
+        let now = clock();
+        let whole = answer_stream(alloc, desk, &stream, now, timer, log);
         answered += number_of(whole);
         asked += 1;
     }

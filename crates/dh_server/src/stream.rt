@@ -23,6 +23,9 @@ const PATIENCE: u64 = 10;
 /// How many seconds a read waits whose bytes are thrown away.
 const SHORT_PATIENCE: u64 = 1;
 
+/// How a request begins that is a POST.
+const POST: &[u8; 5] = b"POST ";
+
 /// For how many seconds such reads may begin; so the last of them ends within three seconds.
 const READING_OUT: u64 = 2;
 
@@ -52,6 +55,17 @@ pub fn ready(port: &TcpListener, socket: &UnixListener) -> (bool, bool) {
     (asked[0].revents != 0, asked[1].revents != 0)
 }
 
+/// Waits so many milliseconds at most until a port has a connection, or a socket where there is one, and tells whether one has.
+pub fn comes_within(port: &TcpListener, socket: Option<&UnixListener>, patience: i32) -> bool {
+    match socket {
+        Some(socket) => {
+            let mut asked = [asking(port.as_raw_fd()), asking(socket.as_raw_fd())];
+            poll(&mut asked, patience) > 0
+        }
+        None => poll(&mut [asking(port.as_raw_fd())], patience) > 0,
+    }
+}
+
 /// Accepts the next connection of the port.
 pub fn accept_request(port: &TcpListener) -> Option<Came> {
     let (stream, _) = port.accept().ok()?;
@@ -79,6 +93,19 @@ pub fn limited(came: Came) -> Option<Came> {
         }
     }
     Some(came)
+}
+
+/// Limits the reads and writes of a connection of the port to ten seconds each, and tells whether its request begins as a POST
+/// does, of which it takes nothing. One that sends nothing for a second does not.
+pub fn begins_as_post(stream: &TcpStream) -> bool {
+    let short = Some(Duration::from_secs(SHORT_PATIENCE));
+    let patience = Some(Duration::from_secs(PATIENCE));
+    let mut start = [0u8; POST.len()];
+    stream.set_read_timeout(short).is_ok()
+        && stream.peek(&mut start).is_ok()
+        && start == *POST
+        && stream.set_read_timeout(patience).is_ok()
+        && stream.set_write_timeout(patience).is_ok()
 }
 
 /// Ends the writing, and reads on until the client is done, or sends nothing for a second, three seconds in all. A stream that

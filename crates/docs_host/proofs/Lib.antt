@@ -3,3 +3,4 @@ pub mod Ending
 pub mod Lines
 pub mod Telling
 pub mod Messages
+pub mod Logging

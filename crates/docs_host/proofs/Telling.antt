@@ -14,10 +14,6 @@ use Rattle.docs_host.specs.declared.failure.Status.{Status}
 use Rattle.docs_host.specs.declared.failure.Status.TheVariants.{Done, Refused, Usage, Faulty, Unanswered}
 
 module _ {S : Type 0} (broken : S → Bool) (held : S → Option Text) where
-  -- three texts, one after another
-  pub some_thrice : (a b c d : S) → TellsSome broken held a b → TellsSome broken held b c → TellsSome broken held c d → TellsSome broken held a d
-  some_thrice a b c d p q r = some_more broken held a c d (some_more broken held a b c p q) r
-
   module _ (line : Option Line) where
     end_is_last : {a b : S} (s : Status) → TellsLast broken held line a b s → TellsEnd broken held line a b s
     end_is_last Done it = tt

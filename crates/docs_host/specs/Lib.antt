@@ -3,6 +3,7 @@ pub mod Exchanges
 pub mod Failing
 pub mod Failures
 pub mod MessageCalls
+pub mod Noting
 pub mod Orders
 pub mod OwnStore
 pub mod Sent

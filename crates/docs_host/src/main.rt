@@ -4,6 +4,7 @@
 mod by_server;
 mod clock;
 mod failure;
+mod journal;
 mod lists;
 mod orders;
 mod own_store;
@@ -16,8 +17,10 @@ mod streams;
 mod usage;
 
 use clock::seconds;
+use dh_log::Leveled;
 use dh_ports::Port;
 use failure::{Failure, Status, tell, tell_usage};
+use journal::is_journal;
 use own_store::name_store;
 use program::run_program;
 use sqlite_disk::Unknown;
@@ -46,7 +49,7 @@ fn words_of<R: Env + AllocGlobal>(rt: &R) -> io::Result<Vec<String>> {
 
 /// Writes that the words were not read: memory is out, or one of them, or what DOCS_STORE names, is no text.
 fn tell_unread(rt: &HostRuntime, error: &io::Error) -> Status {
-    let mut errors = Port::new(rt.stderr());
+    let mut errors = Leveled::new(Port::new(rt.stderr()), is_journal(rt));
     if error.kind() == ErrorKind::OutOfMemory {
         return tell(&mut errors, Failure::Memory, None);
     }
@@ -61,7 +64,7 @@ fn main(rt: HostRuntime) -> ExitCode {
     let mut streams = Streams {
         source: Port::new(rt.stdin()),
         sink: Port::new(rt.stdout()),
-        errors: Port::new(rt.stderr()),
+        errors: Leveled::new(Port::new(rt.stderr()), is_journal(&rt)),
     };
     let mut clock = || seconds(&rt);
     let now = clock();

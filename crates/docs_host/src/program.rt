@@ -68,7 +68,7 @@ fn run_over_desk<S: Start, C: FnMut() -> u64, R: Source, W: Sink, E: Sink>(
     let closed = close_desk(desk);
     let status = ran?;
     if let Some(rest) = served.rest {
-        return serve_rest(rt, file, rest, clock, &mut streams.errors);
+        return serve_rest(rt, file, closed.err(), rest, clock, &mut streams.errors);
     }
     closed?;
     Ok(status)

@@ -5,24 +5,31 @@ ghost use Rattle.dh_http.specs.Desk.{WorldGoesBy};
 ghost use Rattle.dh_server.specs.Serving.{AsksClock, CountsExactly};
 ghost use Rattle.dh_server.specs.Telling.{TellsSome};
 ghost use Rattle.docs_host.specs.Failing.{IsDoneOr, is_of_init, is_of_server, may_fail};
+ghost use Rattle.docs_host.specs.Noting.{IsToldAs, NotesOne, TellsServed, TellsServer};
+ghost use Rattle.docs_host.specs.Noting as noting;
 ghost use Rattle.docs_host.specs.Orders.{AnswersOne, ServesBoth, ServesUpTo};
 
+use crate::clock::seconds;
 use crate::failure::{Failure, Status, put};
+use crate::journal::is_journal;
 use crate::orders::say;
 use crate::socket::{
     ControlSocket, EarlySocket, Node, SocketFault, bind_early, keep_socket, name_of, node_in,
     remove_early, remove_socket,
 };
 use crate::streams::Streams;
-use dh_control::answer_message;
+use dh_control::{End, answer_message};
 use dh_files::{FileDesk, FileFault, close_desk, open_desk};
-use dh_http::Desk;
-use dh_ports::{Sink, Source};
-use dh_server::{Control, Listen, Listening, Log, pause, serve_on};
+use dh_http::{Desk, Refusal};
+use dh_ports::{Sink, Source, Stop};
+use dh_script::{Reason, RunFault, ScriptFault};
+use dh_server::{
+    Came, Control, Entry, Level, Listen, Listening, Log, Ordered, Steady, Subject, pause, serve_on,
+};
 use sqlite::Alter;
 use sqlite_disk::Unknown;
 use std::alloc::Global;
-use std::io;
+use std::io::{self, Stderr, Write};
 use std::net::{SocketAddr, TcpListener};
 
 /// Where connections come from, from before the file is open: clients and commands wait there until it is.
@@ -33,15 +40,19 @@ pub struct Places {
     socket: Result<EarlySocket, SocketFault>,
 }
 
+/// The log of a server, on standard error.
+type ServerLog = Log<Steady<Stderr>>;
+
 /// What was left to serve when the store failed, over the same port and socket.
 #[derive(Drop)]
 pub struct Rest {
     listener: TcpListener,
     socket: Option<ControlSocket>,
+    /// A connection that came and was not asked for yet.
+    waiting: Option<Came>,
     /// How many connections are still to be answered.
     count: u32,
-    /// Whether the log tells each connection.
-    log: bool,
+    log: ServerLog,
 }
 
 /// The file that is served.
@@ -106,11 +117,17 @@ fn tell_port<W: Sink>(
     Ok(listener)
 }
 
-/// Tells that a file is opened again, unless memory is out.
-fn tell_again<E: Sink>(alloc: Global, file: &str, errors: &mut E)
+/// Tells that a file whose store has failed is opened again, and where its disk is full, unless memory is out.
+fn tell_again<E: Sink>(alloc: Global, file: &str, failed: Option<FileFault>, errors: &mut E)
     ensures { TellsSome E.broken E.held errors.old errors.new }
 {
-    if let Ok(line) = format!(in alloc; "docs_host: the store failed; opening {file} again\n") {
+    let why = match failed {
+        Some(FileFault::Full) => ", since the disk is full",
+        _ => "",
+    };
+    if let Ok(line) = format!(in alloc;
+        "docs_host: the store failed{why}; opening {file} again\n"
+    ) {
         put(errors, line.as_str());
     }
 }
@@ -120,6 +137,87 @@ fn name_or_none(rt: &HostRuntime, file: &str) -> String {
     match name_of(rt, rt.alloc(), file) {
         Ok(name) => name,
         Err(_) => String::new(rt.alloc()),
+    }
+}
+
+/// Whether an order was refused by a fault of the server.
+fn is_fault(reason: Reason) -> bool
+    ensures { result ≡ noting.is_fault reason }
+{
+    match reason {
+        Reason::Refused(Refusal::Store | Refusal::OutOfMemory) => true,
+        Reason::Failed(_) => true,
+        _ => false,
+    }
+}
+
+/// Whether memory was out.
+fn is_memory(fault: ScriptFault) -> bool
+    ensures { result ≡ noting.is_memory fault }
+{
+    match fault {
+        ScriptFault::Unread(Stop::Memory) | ScriptFault::Run(RunFault::Memory) => true,
+        _ => false,
+    }
+}
+
+/// How grave it is how a message ended.
+fn level_of(ended: Result<End, ScriptFault>) -> Level
+    ensures { result ≡ noting.level_of ended }
+{
+    match ended {
+        Ok(End::Done) => Level::Info,
+        Ok(End::Refused(reason)) => {
+            if is_fault(reason) {
+                Level::Error
+            } else {
+                Level::Info
+            }
+        }
+        Ok(End::Unknown | End::Elsewhere) => Level::Warning,
+        Err(fault) => {
+            if is_memory(fault) {
+                Level::Error
+            } else {
+                Level::Warning
+            }
+        }
+    }
+}
+
+/// How a message ended, in one word.
+fn outcome_of(ended: Result<End, ScriptFault>) -> &'static str
+    ensures { result.now ≡ noting.outcome_of ended }
+{
+    match ended {
+        Ok(End::Done) => "Done",
+        Ok(End::Refused(_)) => "Refused",
+        Ok(End::Unknown) => "Unknown",
+        Ok(End::Elsewhere) => "Elsewhere",
+        Err(fault) => fault.name(),
+    }
+}
+
+/// Why the order of a message was refused, in one word; empty where it was not.
+fn cause_of(ended: Result<End, ScriptFault>) -> &'static str
+    ensures { result.now ≡ noting.cause_of ended }
+{
+    match ended {
+        Ok(End::Refused(reason)) => reason.code(),
+        _ => "",
+    }
+}
+
+/// Notes how a message ended, and what it asked for.
+fn ordered_as(ended: Result<End, ScriptFault>, subject: Option<Subject>) -> Ordered
+    ensures told { IsToldAs ended result }
+    ensures subject { result.subject ≡ subject }
+{
+    Ordered {
+        level: level_of(ended),
+        outcome: outcome_of(ended),
+        cause: cause_of(ended),
+        subject,
     }
 }
 
@@ -136,6 +234,8 @@ impl<'a> Control for Messages<'a> {
 
     ghost handed = { λ messages. Some messages.count };
 
+    ghost notes = { NotesOne };
+
     fn answer<S: Alter, R: Source, W: Sink>(
         &mut self,
         alloc: Global,
@@ -143,24 +243,50 @@ impl<'a> Control for Messages<'a> {
         source: &mut R,
         sink: &mut W,
         now: u64,
-    ) {
+        is_noted: bool,
+    ) -> Ordered {
         self.count = self.count.saturating_add(1);
-        // The result is told to the client, if it is still there.
-        let _ = answer_message(alloc, desk, self.file, source, sink, now);
+        let mut subject = None;
+        let ended = answer_message(
+            alloc,
+            desk,
+            self.file,
+            source,
+            sink,
+            now,
+            is_noted,
+            &mut subject,
+        );
+        ordered_as(ended, subject)
     }
 }
 
+/// Tells the log that a server of a file begins, or why it ends.
+fn tell_server<L: Write>(
+    rt: &HostRuntime,
+    level: Level,
+    outcome: &str,
+    file: &str,
+    cause: &str,
+    log: &mut Log<L>,
+)
+    ensures { TellsServer L.contents level outcome.now file.now cause.now log.old log.new }
+{
+    let entry = Entry::of_server(level, outcome, file, cause, seconds(rt));
+    log.tell(rt.alloc(), &entry);
+}
+
 /// Answers `count` connections over the desk of a file, each at the moment that the clock gives. Where a fault of the store closes
-/// the desk, gives how many are left.
-fn serve_desk<S: Alter, N: Listen, C: FnMut() -> u64, E: Sink>(
+/// the desk, gives how many are left. The log is told what is served, each connection, and why it ends: all connections came, or
+/// the store failed.
+fn serve_desk<S: Alter, N: Listen, C: FnMut() -> u64, L: Write>(
     rt: &HostRuntime,
     desk: &mut Desk<S>,
     file: &str,
     listening: &mut N,
     clock: &mut C,
     count: u32,
-    log: bool,
-    errors: &mut E,
+    log: &mut Log<L>,
 ) -> Option<u32>
     requires { C.IsAlwaysCallable clock.old }
     ensures asks { CountsExactly (N.asked listening.old) (N.asked listening.new)
@@ -171,14 +297,15 @@ fn serve_desk<S: Alter, N: Listen, C: FnMut() -> u64, E: Sink>(
     ensures serves { WorldGoesBy S.Store desk.old desk.new
         (ServesBoth C.step clock.old clock.new (count - unwrap_or result 0)) }
     ensures callable { C.IsAlwaysCallable clock.new }
-    ensures tells { TellsSome E.broken E.held errors.old errors.new }
+    ensures tells { TellsServed L.contents file.now desk.new.closed
+        (count - unwrap_or result 0) log.old log.new }
 {
-    let log = Log::new(rt, log);
     let name = name_or_none(rt, file);
     let mut messages = Messages {
         file: name.as_str(),
         count: 0,
     };
+    tell_server(rt, Level::Info, "Begins", file, "", log);
     let served = serve_on(
         rt.alloc(),
         desk,
@@ -186,12 +313,14 @@ fn serve_desk<S: Alter, N: Listen, C: FnMut() -> u64, E: Sink>(
         &mut messages,
         clock,
         count,
-        &log,
-        errors,
+        rt,
+        log,
     );
     if desk.is_closed() {
+        tell_server(rt, Level::Error, "Ends", file, "Store", log);
         return Some(count - served.asked);
     }
+    tell_server(rt, Level::Info, "Ends", file, "Count", log);
     None
 }
 
@@ -244,6 +373,7 @@ fn serve_at<S: Alter, C: FnMut() -> u64, R: Source, W: Sink, E: Sink>(
     let Ok(mut listening) = listening_at(&listener, &socket) else {
         return Err(Failure::Bind);
     };
+    let mut log = Log::new(Steady::new(rt.stderr()), log, is_journal(rt));
     match serve_desk(
         rt,
         desk,
@@ -251,13 +381,14 @@ fn serve_at<S: Alter, C: FnMut() -> u64, R: Source, W: Sink, E: Sink>(
         &mut listening,
         clock,
         count,
-        log,
-        &mut streams.errors,
+        &mut log,
     ) {
         Some(left) => {
+            let waiting = listening.into_waiting();
             served.rest = Some(Rest {
                 listener,
                 socket,
+                waiting,
                 count: left,
                 log,
             });
@@ -377,15 +508,17 @@ pub fn tell_waiting<E: Sink>(alloc: Global, file: &str, seconds: u32, errors: &m
 
 /// Opens a file again whose store has failed, and answers `count` connections over it. Where the store fails once more, gives
 /// how many are left, and the control socket stays; else the socket is removed. The socket also stays where the file does not
-/// open: another program may have the file by then, and the socket may be that program's.
-fn serve_again<N: Listen, C: FnMut() -> u64, E: Sink>(
+/// open: another program may have the file by then, and the socket may be that program's. `failed` is what the closing before met,
+/// and then what this one does.
+fn serve_again<N: Listen, C: FnMut() -> u64, L: Write, E: Sink>(
     rt: &HostRuntime,
     file: &str,
+    failed: &mut Option<FileFault>,
     own: Option<Node>,
     listening: &mut N,
     clock: &mut C,
     count: u32,
-    log: bool,
+    log: &mut Log<L>,
     errors: &mut E,
 ) -> Result<Option<u32>, Failure>
     requires { C.IsAlwaysCallable clock.old }
@@ -399,28 +532,31 @@ fn serve_again<N: Listen, C: FnMut() -> u64, E: Sink>(
     ensures fails { IfErr result (λ failure. IsTrue (may_fail is_of_init failure)) }
     ensures tells { TellsSome E.broken E.held errors.old errors.new }
 {
-    tell_again(rt.alloc(), file, errors);
+    tell_again(rt.alloc(), file, *failed, errors);
     let (mut desk, projects) = open_within(rt, file, REOPENING)?;
     tell_served(rt.alloc(), file, projects, errors);
-    let left = serve_desk(rt, &mut desk, file, listening, clock, count, log, errors);
+    let left = serve_desk(rt, &mut desk, file, listening, clock, count, log);
     remove_at_end(rt, file, own, left);
     let closed = close_desk(desk);
+    *failed = closed.err();
     if left.is_none() {
         closed?;
     }
     Ok(left)
 }
 
-/// Answers `count` connections over a file whose store has failed: the file is opened again, and once more each time its store
-/// fails. The run is done when all connections were asked for, over a file that was opened and has not failed since.
-fn serve_left<N: Listen, C: FnMut() -> u64, E: Sink>(
+/// Answers `count` connections over a file whose store has failed, where its closing met `failed`: the file is opened again, and
+/// once more each time its store fails. The run is done when all connections were asked for, over a file that was opened and has
+/// not failed since.
+fn serve_left<N: Listen, C: FnMut() -> u64, L: Write, E: Sink>(
     rt: &HostRuntime,
     file: &str,
+    failed: Option<FileFault>,
     own: Option<Node>,
     listening: &mut N,
     clock: &mut C,
     count: u32,
-    log: bool,
+    log: &mut Log<L>,
     errors: &mut E,
 ) -> Result<Status, Failure>
     requires { C.IsAlwaysCallable clock.old }
@@ -430,9 +566,20 @@ fn serve_left<N: Listen, C: FnMut() -> u64, E: Sink>(
     ensures ends { IsDoneOr is_of_init result }
     ensures tells { TellsSome E.broken E.held errors.old errors.new }
 {
+    let mut failed = failed;
     let mut left = count;
     'openings: for _ in 0..count.saturating_add(1) {
-        let fewer = serve_again(rt, file, own, listening, clock, left, log, errors)?;
+        let fewer = serve_again(
+            rt,
+            file,
+            &mut failed,
+            own,
+            listening,
+            clock,
+            left,
+            log,
+            errors,
+        )?;
         match fewer {
             Some(still) => left = still,
             None => return Ok(Status::Done),
@@ -441,11 +588,12 @@ fn serve_left<N: Listen, C: FnMut() -> u64, E: Sink>(
     Err(Failure::File(FileFault::Failed))
 }
 
-/// Answers what was left to serve when the store failed, over the file, which is opened again. Clients of both kinds wait
-/// meanwhile.
+/// Answers what was left to serve when the store failed, over the file, which is opened again; `failed` is what its closing met.
+/// Clients of both kinds wait meanwhile.
 pub fn serve_rest<C: FnMut() -> u64, E: Sink>(
     rt: &HostRuntime,
     file: &str,
+    failed: Option<FileFault>,
     rest: Rest,
     clock: &mut C,
     errors: &mut E,
@@ -455,18 +603,27 @@ pub fn serve_rest<C: FnMut() -> u64, E: Sink>(
     ensures ends { IsDoneOr is_of_init result }
     ensures tells { TellsSome E.broken E.held errors.old errors.new }
 {
+    let Rest {
+        listener,
+        socket,
+        waiting,
+        count,
+        mut log,
+    } = rest;
     // (the port and the socket were made so before, and stay so)
-    let Ok(mut listening) = listening_at(&rest.listener, &rest.socket) else {
+    let Ok(mut listening) = listening_at(&listener, &socket) else {
         return Err(Failure::File(FileFault::Failed));
     };
+    listening.put_back(waiting);
     serve_left(
         rt,
         file,
-        node_in(&rest.socket),
+        failed,
+        node_in(&socket),
         &mut listening,
         clock,
-        rest.count,
-        rest.log,
+        count,
+        &mut log,
         errors,
     )
 }

@@ -12,7 +12,7 @@ mod seen;
 mod sockets;
 mod streams;
 
-use dh_ports::{Failed, Port, Sink};
+use dh_ports::{Failed, Sink};
 use dh_sample::sample_desk;
 use dh_server::{Listening, Log, NoControl, Tally, serve_on};
 use std::io;
@@ -85,7 +85,6 @@ fn received(rt: &HostRuntime, stream: TcpStream) -> Result<String, Fail> {
 fn serve(rt: &HostRuntime, listener: &TcpListener, count: u32) -> Result<Tally, Fail> {
     let mut desk = sample_desk(rt.alloc())?;
     let mut listening = Listening::new(listener);
-    let mut errors = Port::new(rt.stderr());
     Ok(serve_on(
         rt.alloc(),
         &mut desk,
@@ -93,7 +92,7 @@ fn serve(rt: &HostRuntime, listener: &TcpListener, count: u32) -> Result<Tally, 
         &mut NoControl,
         &mut || 0,
         count,
-        &Log::new(rt, false),
-        &mut errors,
+        rt,
+        &mut Log::new(rt.stderr(), false, false),
     ))
 }

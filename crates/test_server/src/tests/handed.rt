@@ -3,7 +3,7 @@
 use super::{Counter, INSTALL};
 use dh_ports::Port;
 use dh_sample::sample_desk;
-use dh_server::{Done, EngineFault, Joined, answer_joined};
+use dh_server::{Done, EngineFault, Joined, Note, answer_joined};
 use std::alloc::Global;
 use std::test::Fail;
 
@@ -17,7 +17,14 @@ fn handed(alloc: Global, room: usize) -> Result<(Result<Done, EngineFault>, usiz
         stopped: false,
     };
     let mut sink = Joined::new(alloc, counter);
-    let done = answer_joined(alloc, &mut desk, &mut source, &mut sink, 0);
+    let done = answer_joined(
+        alloc,
+        &mut desk,
+        &mut source,
+        &mut sink,
+        0,
+        &mut Note::nothing(),
+    );
     Ok((done, sink.inner().calls))
 }
 

@@ -2,9 +2,9 @@
 
 use super::{all, listen};
 use dh_http::Desk;
-use dh_ports::{Port, Sink, Source, put_all};
+use dh_ports::{Sink, Source, put_all};
 use dh_sample::sample_desk;
-use dh_server::{Control, Listening, Log, Tally, serve_on};
+use dh_server::{Control, Level, Listening, Log, Ordered, Tally, serve_on};
 use sqlite::Alter;
 use std::alloc::Global;
 use std::io::Write;
@@ -25,6 +25,8 @@ impl Control for Echo {
 
     ghost handed = { λ _. None };
 
+    ghost notes = { λ _ ordered. ordered.subject ≡ None };
+
     fn answer<S: Alter, R: Source, W: Sink>(
         &mut self,
         _alloc: Global,
@@ -32,10 +34,17 @@ impl Control for Echo {
         source: &mut R,
         sink: &mut W,
         _now: u64,
-    ) {
+        _is_noted: bool,
+    ) -> Ordered {
         let mut room = [0u8; 16];
         if let Ok(count) = source.fill(&mut room) {
             let _ = put_all(sink, &room[..count]);
+        }
+        Ordered {
+            level: Level::Info,
+            outcome: "Echo",
+            cause: "",
+            subject: None,
         }
     }
 }
@@ -44,7 +53,6 @@ impl Control for Echo {
 fn serve_one(rt: &HostRuntime, port: &TcpListener, socket: &UnixListener) -> Result<Tally, Fail> {
     let mut desk = sample_desk(rt.alloc())?;
     let mut listening = Listening::with_socket(port, socket)?;
-    let mut errors = Port::new(rt.stderr());
     Ok(serve_on(
         rt.alloc(),
         &mut desk,
@@ -52,8 +60,8 @@ fn serve_one(rt: &HostRuntime, port: &TcpListener, socket: &UnixListener) -> Res
         &mut Echo,
         &mut || 0,
         1,
-        &Log::new(rt, false),
-        &mut errors,
+        rt,
+        &mut Log::new(rt.stderr(), false, false),
     ))
 }
 

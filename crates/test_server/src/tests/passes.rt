@@ -3,13 +3,12 @@
 use super::{all, client, listen, received};
 use dh_http::{Answer, Command, CommandChange};
 use dh_paths::Text;
-use dh_ports::Port;
 use dh_sample::sample_desk;
 use dh_server::{Came, Listen, Listening, Log, NoControl, serve_on};
 use sqlite::MemStore;
 use std::alloc::Global;
 use std::cell::Cell;
-use std::net::TcpListener;
+use std::net::{TcpListener, TcpStream};
 use std::test::Fail;
 
 type Desk = dh_http::Desk<MemStore>;
@@ -54,13 +53,11 @@ fn serve_three(rt: &HostRuntime, listener: &TcpListener) -> Result<bool, Fail> {
     let mut desk = sample_desk(rt.alloc())?;
     let closed = close_to_all_but_a_pass(rt.alloc(), &mut desk)?;
     let mut listening = Listening::new(listener);
-    let mut errors = Port::new(rt.stderr());
     let mut is_early = false;
     let mut clock = || {
         is_early = !is_early;
         if is_early { 999 } else { 1000 }
     };
-    let log = Log::new(rt, false);
     let served = serve_on(
         rt.alloc(),
         &mut desk,
@@ -68,8 +65,8 @@ fn serve_three(rt: &HostRuntime, listener: &TcpListener) -> Result<bool, Fail> {
         &mut NoControl,
         &mut clock,
         3,
-        &log,
-        &mut errors,
+        rt,
+        &mut Log::new(rt.stderr(), false, false),
     );
     Ok(closed && served == all(3))
 }
@@ -93,6 +90,10 @@ impl Listen for Late<'_> {
         let (stream, _) = self.port.accept().ok()?;
         Some(Came::Request(stream))
     }
+
+    fn accept_post(&mut self, _patience: i32) -> Option<TcpStream> {
+        None
+    }
 }
 
 /// Serves a connection that comes at 1000, and not before.
@@ -104,7 +105,6 @@ fn serve_late(rt: &HostRuntime, listener: &TcpListener) -> Result<bool, Fail> {
         port: listener,
         is_late: &is_late,
     };
-    let mut errors = Port::new(rt.stderr());
     let served = serve_on(
         rt.alloc(),
         &mut desk,
@@ -112,8 +112,8 @@ fn serve_late(rt: &HostRuntime, listener: &TcpListener) -> Result<bool, Fail> {
         &mut NoControl,
         &mut || if is_late.get() { 1000 } else { 999 },
         1,
-        &Log::new(rt, false),
-        &mut errors,
+        rt,
+        &mut Log::new(rt.stderr(), false, false),
     );
     Ok(closed && served == all(1))
 }

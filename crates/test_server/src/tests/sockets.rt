@@ -1,7 +1,6 @@
 //! A control socket beside the port.
 
 use super::{INSTALL, PAGE, all, client, listen, received};
-use dh_ports::Port;
 use dh_sample::sample_desk;
 use dh_server::{Listening, Log, NoControl, Tally, serve_on};
 use std::net::TcpListener;
@@ -19,7 +18,6 @@ fn serve_both(
 ) -> Result<Tally, Fail> {
     let mut desk = sample_desk(rt.alloc())?;
     let mut listening = Listening::with_socket(port, socket)?;
-    let mut errors = Port::new(rt.stderr());
     Ok(serve_on(
         rt.alloc(),
         &mut desk,
@@ -27,8 +25,8 @@ fn serve_both(
         &mut NoControl,
         &mut || 0,
         count,
-        &Log::new(rt, false),
-        &mut errors,
+        rt,
+        &mut Log::new(rt.stderr(), false, false),
     ))
 }
 

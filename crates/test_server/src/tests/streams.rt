@@ -1,11 +1,10 @@
 //! Good clients and others.
 
 use super::{INSTALL, PAGE, all, client, listen, received, serve};
-use dh_ports::Port;
 use dh_sample::sample_desk;
 use dh_server::{Came, Listen, Log, NoControl, Tally, serve_on};
 use std::io::Write;
-use std::net::Shutdown;
+use std::net::{Shutdown, TcpStream};
 use std::test::Fail;
 
 fn page_is_served(rt: &HostRuntime) -> Result<bool, Fail> {
@@ -81,12 +80,15 @@ impl Listen for Nobody {
     fn accept(&mut self) -> Option<Came> {
         None
     }
+
+    fn accept_post(&mut self, _patience: i32) -> Option<TcpStream> {
+        None
+    }
 }
 
 /// How many connections it asked for, of so many of which none comes, and how many it answered.
 fn serve_nobody(rt: &HostRuntime, count: u32) -> Result<Tally, Fail> {
     let mut desk = sample_desk(rt.alloc())?;
-    let mut errors = Port::new(rt.stderr());
     Ok(serve_on(
         rt.alloc(),
         &mut desk,
@@ -94,8 +96,8 @@ fn serve_nobody(rt: &HostRuntime, count: u32) -> Result<Tally, Fail> {
         &mut NoControl,
         &mut || 0,
         count,
-        &Log::new(rt, false),
-        &mut errors,
+        rt,
+        &mut Log::new(rt.stderr(), false, false),
     ))
 }
 

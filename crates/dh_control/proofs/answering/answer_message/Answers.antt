@@ -12,3 +12,6 @@ pub returns-clause-read_fault : goal.returns-clause-read_fault
 returns-clause-read_fault g c =
     λ broken. reader_told (g.W.Sink.held c.take_message-ended.new.sink) (g.W.Sink.held c.tell_end.new.sink) c.take_message-ended.result c.tell_end.result c.tell_end.ensures.tells
     (c.take_message-ended.ensures.read_fault broken)
+
+pub returns-clause-ended : goal.returns-clause-ended
+returns-clause-ended g c = (g.W.Sink.held c.take_message-ended.new.sink, c.take_message-ended.result, c.tell_end.ensures.tells)

@@ -1,4 +1,4 @@
-use Rattle.std.proofs.Common.{◌≡◌, inl, refl, subst}
+use Rattle.std.proofs.Common.{inl, refl, subst}
 use Rattle.dh_desk.specs.Desk.{WorldGoesBy}
 use Rattle.dh_desk.proofs.Moving.{WorldGoesBy-refl}
 use Rattle.dh_lines.specs.declared.lines.Order.{Order}

@@ -1,4 +1,4 @@
-use Rattle.std.proofs.Common.{◌≡◌, refl}
+use Rattle.std.proofs.Common.{◌≡◌, inl, inr, refl}
 use Rattle.dh_desk.specs.Desk.{world}
 use Rattle.dh_desk.proofs.Moving.{WorldGoesBy-refl, WorldGoesBy-weaker, goes_clean}
 use Rattle.dh_http.proofs.Headlines.{headline_of}
@@ -37,3 +37,16 @@ returns-in-Err-Read-clause-refused g c = anyway (c.args.desk.now ≡ c.args.desk
 
 pub returns-in-Err-TooManyTurns-clause-refused : goal.returns-in-Err-TooManyTurns-clause-refused
 returns-in-Err-TooManyTurns-clause-refused g c = anyway (c.args.desk.now ≡ c.args.desk.now) (g.R.Source.left c.args.source.now) refl
+
+pub returns-in-Ok-clause-noted : goal.returns-in-Ok-clause-noted
+returns-in-Ok-clause-noted g c =
+    WorldGoesBy-weaker c.answer_request.ensures.noted (λ u v noted. inl (c.in-Ok.request, c.in-Ok.ensures.asked, noted))
+
+pub returns-in-Err-Memory-clause-noted : goal.returns-in-Err-Memory-clause-noted
+returns-in-Err-Memory-clause-noted g c = WorldGoesBy-refl (λ w. inr (refl, c.nothing.ensures))
+
+pub returns-in-Err-Read-clause-noted : goal.returns-in-Err-Read-clause-noted
+returns-in-Err-Read-clause-noted g c = WorldGoesBy-refl (λ w. inr (refl, c.nothing.ensures))
+
+pub returns-in-Err-TooManyTurns-clause-noted : goal.returns-in-Err-TooManyTurns-clause-noted
+returns-in-Err-TooManyTurns-clause-noted g c = WorldGoesBy-refl (λ w. inr (refl, c.nothing.ensures))

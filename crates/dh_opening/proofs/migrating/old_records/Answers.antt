@@ -10,7 +10,7 @@ use Rattle.dh_opening.specs.Migrating.{AreOldIn}
 use Rattle.dh_opening.specs.ThinPages.{made_whole}
 use Rattle.dh_opening.proofs.Looks.{handed, laid_on, opens_both, out_of_memory, refused_at_once, then_ok}
 use Rattle.dh_opening.proofs.MigrateLemmas.{found_old, order_kept}
-use Rattle.dh_opening.proofs.Spelling.{not_alone}
+use Rattle.dh_opening.proofs.Spelling.{may_derive, not_alone}
 use Rattle.dh_opening.proofs.migrating.old_records.Goals as goal
 
 pub returns-then-not-are_old : goal.returns-then-not-are_old
@@ -59,21 +59,22 @@ returns-in_err-records g c = record {
       (opens_both c.in_ok-rows.rows (Err c.in_err-records.field-0.0) c.in_ok-rows.ensures.opens c.in_err-records.ensures.opens);
 }
 
-pub returns-in_err-check_derived : goal.returns-in_err-check_derived
-returns-in_err-check_derived g c = record {
-  opens = handed c.from_residual-in_err-check_derived.result c.in_err-check_derived.field-0.0 c.from_residual-in_err-check_derived.ensures.1
+pub returns-in_err-derived : goal.returns-in_err-derived
+returns-in_err-derived g c = record {
+  opens = handed c.from_residual-in_err-derived.result c.in_err-derived.field-0.0 c.from_residual-in_err-derived.ensures.1
       (λ both it. both.1 it.derived)
-      (opens_both c.in_ok-records.records (Err c.in_err-check_derived.field-0.0) (opens_both c.in_ok-rows.rows (Ok c.in_ok-records.records) c.in_ok-rows.ensures.opens c.in_ok-records.ensures.opens) c.in_err-check_derived.ensures.opens);
+      (opens_both c.in_ok-records.records (Err c.in_err-derived.field-0.0) (opens_both c.in_ok-rows.rows (Ok c.in_ok-records.records) c.in_ok-rows.ensures.opens c.in_ok-records.ensures.opens) c.in_err-derived.ensures.opens);
 }
 
 pub returns : goal.returns
 returns g c = record {
-  opens = then_ok c.in_ok-check_derived.field-0
-      (opens_both c.in_ok-records.records (Ok c.in_ok-check_derived.field-0) (opens_both c.in_ok-rows.rows (Ok c.in_ok-records.records) c.in_ok-rows.ensures.opens c.in_ok-records.ensures.opens) c.in_ok-check_derived.ensures.opens) c.in_ok-records.records
+  opens = then_ok c.in_ok-derived.derived
+      (opens_both c.in_ok-records.records (Ok c.in_ok-derived.derived) (opens_both c.in_ok-rows.rows (Ok c.in_ok-records.records) c.in_ok-rows.ensures.opens c.in_ok-records.ensures.opens) c.in_ok-derived.ensures.opens) (c.in_ok-records.records, c.in_ok-derived.derived)
       (λ honest it. (
         (c.schema.ensures.live honest.1).0,
+        it.1,
         λ number.
-            let old = found_old (state g.S.Store c.args.conn.now).now c.in_ok-rows.rows.items (made_whole it.0.1.0 it.0.1.1 (lists_in c.in_ok-records.records)) it.0.0 it.0.1.2 (c.in_ok-records.ensures.passes ∙ c.in_ok-passes.ensures) refl (subst AreOldIn c.schema.ensures.value (c.are_old.ensures.0 (search rules))) it.1 number in
+            let old = found_old (state g.S.Store c.args.conn.now).now c.in_ok-rows.rows.items (made_whole it.0.1.0 it.0.1.1 (lists_in c.in_ok-records.records)) it.0.0 it.0.1.2 (c.in_ok-records.ensures.passes ∙ c.in_ok-passes.ensures) refl (subst AreOldIn c.schema.ensures.value (c.are_old.ensures.0 (search rules))) (may_derive (state g.S.Store c.args.conn.now).now c.in_ok-derived.derived it.1) number in
             (old.0, (it.0.1.0, it.0.1.1, old.1)),
       ));
 }

@@ -11,7 +11,7 @@ use Rattle.dh_schema.specs.Tables.{lists_of, pass_table}
 use Rattle.dh_opening.specs.Opening.{StandFor, other_tables}
 use Rattle.dh_opening.specs.ThinPages.{made_whole}
 use Rattle.dh_opening.proofs.Looks.{handed, laid_on, opens_as, opens_both, refused_at_once}
-use Rattle.dh_opening.proofs.Spelling.{made_ours, not_alone}
+use Rattle.dh_opening.proofs.Spelling.{made_ours, may_derive, not_alone}
 use Rattle.dh_opening.proofs.opening.check_tables.Goals as goal
 
 pub returns-then-not-are_ours : goal.returns-then-not-are_ours
@@ -61,10 +61,13 @@ check_derived-requires g c = record {
 pub returns : goal.returns
 returns g c = record {
   opens = opens_as c.check_derived.result
-      (λ honest u it number.
-      made_ours (state g.S.Store c.args.conn.now).now (made_whole it.0.1.0 it.0.1.1 (lists_in c.in_ok-kept_records.field-0)) refl it.0.1.2
-      (subst (StandFor passes IsPass (codes "pass") (state g.S.Store c.args.conn.now).now) (sym c.in_ok-kept_records.ensures.passes) it.0.0)
-      (subst (λ (s : Schema). AllByRecursion (StandsAlone s) (pass_table ∷ other_tables)) c.schema.ensures.value (c.are_ours.ensures.0 (search rules))) it.1 number)
+      (λ honest derived it. (
+        it.1,
+        λ number.
+            made_ours (state g.S.Store c.args.conn.now).now (made_whole it.0.1.0 it.0.1.1 (lists_in c.in_ok-kept_records.field-0)) refl it.0.1.2
+            (subst (StandFor passes IsPass (codes "pass") (state g.S.Store c.args.conn.now).now) (sym c.in_ok-kept_records.ensures.passes) it.0.0)
+            (subst (λ (s : Schema). AllByRecursion (StandsAlone s) (pass_table ∷ other_tables)) c.schema.ensures.value (c.are_ours.ensures.0 (search rules))) (may_derive (state g.S.Store c.args.conn.now).now derived it.1) number,
+      ))
       (λ none it. none.1 it.derived)
       (opens_both c.in_ok-kept_records.field-0 c.check_derived.result (opens_both c.in_ok-passes.passes (Ok c.in_ok-kept_records.field-0) c.in_ok-passes.ensures.opens c.in_ok-kept_records.ensures.opens) c.check_derived.ensures.opens);
 }

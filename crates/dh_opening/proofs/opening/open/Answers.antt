@@ -1,10 +1,9 @@
 use Rattle.std.proofs.Common.{◌∙◌, ◌⊎◌, Err, ap, subst}
 use Rattle.sqlite.specs.Held.{state}
 use Rattle.dh_rows.specs.Calls.{IsBlamed, IsHonest, LeavesNoMore}
-use Rattle.dh_schema.specs.Making.{CanAdd}
 use Rattle.dh_schema.specs.Tables.{lists_of}
 use Rattle.dh_opening.specs.Opening.{IsNumbered, IsOurs, OnFailed}
-use Rattle.dh_opening.specs.Filling.{AddsNothing, LacksDerived, LeavesOpened}
+use Rattle.dh_opening.specs.Filling.{ChangesNothing, LacksDerived, LeavesOpened}
 use Rattle.dh_opening.proofs.BringLemmas.{is_open, is_brought, is_committed, is_last, are_sound, keeps}
 use Rattle.dh_opening.proofs.OpenLemmas.{on_not_ours, on_old_schema, on_store_failed}
 use Rattle.dh_opening.proofs.opening.open.Goals as goal
@@ -39,7 +38,7 @@ returns-in-Ok-clause-left g c = rw c.finish.ensures (λ honest w left.
     left.2 ∙ ap (λ trees. lists_of (record { schema = (state g.S.Store c.open_tables.new.conn).committed.schema; trees = trees })) (g.met.S.Store.settled c.open_tables.new.conn.store left.0 honest.1 left.1))
 
 pub returns-in-Ok-clause-quiet : goal.returns-in-Ok-clause-quiet
-returns-in-Ok-clause-quiet g c = rw c.finish.ensures (subst (λ h. ¬ CanAdd (state g.S.Store h).now.schema → IsHonest g.S.Store h → LeavesNoMore g.S.Store h c.open_tables.new.conn) c.set_step_limit.ensures c.in-Ok.ensures.opens.quiet)
+returns-in-Ok-clause-quiet g c = rw c.finish.ensures (subst (λ h. ¬ LacksDerived (state g.S.Store h).now → IsHonest g.S.Store h → LeavesNoMore g.S.Store h c.open_tables.new.conn) c.set_step_limit.ensures c.in-Ok.ensures.opens.quiet)
 
 pub returns-in-Ok-clause-crash : goal.returns-in-Ok-clause-crash
 returns-in-Ok-clause-crash g c = rw c.finish.ensures (subst (λ h. LeavesOpened g.S.Store h c.open_tables.new.conn) c.set_step_limit.ensures c.in-Ok.ensures.opens.brings.crash)
@@ -56,7 +55,7 @@ returns-in-Err-clause-told g c clean is =
     (subst (λ h. OnFailed {T = Unit {0}} (Err c.in-Err.fault) (IsBlamed g.S.Store h c.open_tables.new.conn ⊎ LacksDerived (state g.S.Store h).now)) c.set_step_limit.ensures (c.in-Err.ensures.opens.brings.told clean)) is
 
 pub returns-in-Err-clause-kept : goal.returns-in-Err-clause-kept
-returns-in-Err-clause-kept g c = subst (λ h. AddsNothing c.in-Err.fault (state g.S.Store h).now → IsHonest g.S.Store h → LeavesNoMore g.S.Store h c.open_tables.new.conn) c.set_step_limit.ensures c.in-Err.ensures.opens.quiet
+returns-in-Err-clause-kept g c = subst (λ h. ChangesNothing c.in-Err.fault (state g.S.Store h).now → IsHonest g.S.Store h → LeavesNoMore g.S.Store h c.open_tables.new.conn) c.set_step_limit.ensures c.in-Err.ensures.opens.quiet
 
 pub returns-in-Err-clause-stop : goal.returns-in-Err-clause-stop
 returns-in-Err-clause-stop g c = subst (λ h. LeavesOpened g.S.Store h c.open_tables.new.conn) c.set_step_limit.ensures c.in-Err.ensures.opens.brings.crash

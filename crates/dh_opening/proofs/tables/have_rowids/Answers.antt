@@ -1,4 +1,4 @@
-use Rattle.std.proofs.Common.{subst, sym, ap, ◌↔◌, Bool, IsTrue}
+use Rattle.std.proofs.Common.{subst, sym, ◌↔◌, Bool, IsTrue}
 use Rattle.dh_rows.specs.Whole.{AreRowids}
 use Rattle.dh_opening.proofs.Looks.{then_ok}
 use Rattle.dh_opening.proofs.RowidsTaken.{rowids_told}

@@ -3,7 +3,6 @@ use Rattle.sqlite.specs.Held.{state}
 use Rattle.dh_constraints.specs.Keys.{IsFitKey}
 use Rattle.dh_constraints.specs.declared.projects.Projects.{Projects}
 use Rattle.dh_records.specs.Typed.{IsUsed}
-use Rattle.dh_records.specs.declared.records.RetryRow.{RetryRow}
 use Rattle.dh_opening.specs.Opening.{AnswersQuery, IsWhole}
 use Rattle.dh_opening.specs.Readings.{used_reads, used_suits}
 use Rattle.dh_opening.specs.RetryKeys.{AreFitKeys}

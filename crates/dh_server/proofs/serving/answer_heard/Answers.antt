@@ -1,6 +1,8 @@
-use Rattle.std.proofs.Common.{drop, refl}
+use Rattle.std.proofs.Common.{drop, refl, subst₂}
 use Rattle.std.specs.Io.KnownBytes.{append_known}
 use Rattle.dh_http.proofs.Moving.{WorldGoesBy-weaker}
+use Rattle.dh_server.specs.Telling.{IsEntryOfRequest}
+use Rattle.dh_server.specs.declared.beginning.Beginning.{Beginning}
 use Rattle.dh_server.proofs.serving.answer_heard.Goals as goal
 
 pub returns-clause-some : goal.returns-clause-some
@@ -10,4 +12,11 @@ returns-clause-some g c =
     (λ u v answers. (g.R.Source.left c.args.source.now.inner, held, g.W.Sink.held c.answer_joined-result.new.sink.inner.inner, c.answer_joined-result.result, answers, refl))
 
 pub returns-clause-tells : goal.returns-clause-tells
-returns-clause-tells g c = (record { line = c.first_line.result; host = c.host.result; moment = c.args.now; reason = c.reason_of.result }, c.count.result, refl, c.tell.ensures.line)
+returns-clause-tells g c = (
+  c.answer_joined-result.new.note,
+  c.request_entry.result,
+  c.answer_joined-result.ensures.noted,
+  subst₂ (λ moment (came : Beginning). IsEntryOfRequest c.answer_joined-result.result moment c.answer_joined-result.new.note came.bytes.items c.request_entry.result)
+      c.measure-measured.ensures c.beginning-came.ensures c.request_entry.ensures,
+  c.tell.ensures,
+)

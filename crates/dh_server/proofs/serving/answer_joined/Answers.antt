@@ -27,3 +27,12 @@ returns-in-Err-clause-answers g c =
     let kept = append_known (g.W.Sink.held c.answer.new.sink.inner) (drop c.answer.new.sink.gone c.answer.new.sink.kept.items) in
     WorldGoesBy-weaker c.in_ok-done.ensures.answers
     (λ u v. cut c.args.now (g.R.Source.left c.args.source.now) held kept (g.W.Sink.held c.hand_on.new.self.inner) u v c.in_ok-done.done c.in-Err.count)
+
+pub returns-in_err-done-clause-noted : goal.returns-in_err-done-clause-noted
+returns-in_err-done-clause-noted g c = c.in_err-done.ensures.noted
+
+pub returns-in-Ok-clause-noted : goal.returns-in-Ok-clause-noted
+returns-in-Ok-clause-noted g c = c.in_ok-done.ensures.noted
+
+pub returns-in-Err-clause-noted : goal.returns-in-Err-clause-noted
+returns-in-Err-clause-noted g c = c.in_ok-done.ensures.noted

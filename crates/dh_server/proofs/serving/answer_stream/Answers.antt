@@ -1,8 +1,7 @@
 use Rattle.std.proofs.Common.{sym, subst}
-use Rattle.std.specs.Prelude.{Some}
 use Rattle.dh_http.specs.Desk.{WorldGoesBy}
+use Rattle.dh_log.proofs.Many.{tells_one}
 use Rattle.dh_server.specs.Serving.{AnswersSome}
-use Rattle.dh_server.proofs.Told.{some_line}
 use Rattle.dh_server.proofs.serving.answer_stream.Goals as goal
 
 pub returns-clause-answers : goal.returns-clause-answers
@@ -12,5 +11,5 @@ returns-clause-answers g c =
 
 pub returns-clause-tells : goal.returns-clause-tells
 returns-clause-tells g c =
-    some_line g.L.Sink.broken g.L.Sink.held c.args.errors.now c.answer_heard-result.new.errors (Some c.answer_heard-result.result) c.args.now
-    c.answer_heard-result.ensures.tells
+    let told = c.answer_heard-result.ensures.tells in
+    tells_one g.L.Write.contents c.args.log.now c.answer_heard-result.new.log told.1 told.4

@@ -1,6 +1,7 @@
 use Rattle.std.proofs.Common.{[], ◌∷◌, of_calls, refl, subst}
 use Rattle.dh_http.proofs.Moving.{WorldGoesBy-refl, WorldGoesBy-weaker}
 use Rattle.dh_server.specs.Serving.{CountsExactly, messages_in}
+use Rattle.dh_log.proofs.Many.{tells_one}
 use Rattle.dh_server.proofs.Calling.{lost_turn, turn_at}
 use Rattle.dh_server.proofs.Stepping.{hands_none}
 use Rattle.dh_server.proofs.serving.serve_next.Goals as goal
@@ -31,3 +32,6 @@ returns-in-Some-clause-turn g c =
 pub returns-in-None-clause-turn : goal.returns-in-None-clause-turn
 returns-in-None-clause-turn g c =
     WorldGoesBy-refl (lost_turn (λ moment. goal.C-step g c.args.clock.now moment c.clock-now.new.self) g.K.Control.does c.clock-now.result (search of_calls))
+
+pub returns-in-None-clause-tells : goal.returns-in-None-clause-tells
+returns-in-None-clause-tells g c = tells_one g.L.Write.contents c.args.log.now c.tell.new.self c.of_none.result c.tell.ensures

@@ -1,6 +1,6 @@
 use Rattle.std.proofs.Common.{◌≡◌, true, false}
+use Rattle.dh_server.proofs.Told.{some_more}
 use Rattle.docs_host.proofs.Asking.{few_left}
-use Rattle.docs_host.proofs.Telling.{some_thrice}
 use Rattle.docs_host.proofs.serving.serve_again.Goals as goal
 
 pub returns-else-is_none-clause-few : goal.returns-else-is_none-clause-few
@@ -10,15 +10,15 @@ returns-else-is_none-clause-few g c =
 
 pub returns-in_err-closed-clause-tells : goal.returns-in_err-closed-clause-tells
 returns-in_err-closed-clause-tells g c =
-    some_thrice g.E.Sink.broken g.E.Sink.held c.args.errors.now c.tell_again.new.errors c.tell_served.new.errors c.serve_desk-left.new.errors
-    c.tell_again.ensures c.tell_served.ensures c.serve_desk-left.ensures.tells
+    some_more g.E.Sink.broken g.E.Sink.held c.args.errors.now c.tell_again.new.errors c.tell_served.new.errors
+    c.tell_again.ensures c.tell_served.ensures
 
 pub returns-in_ok-closed-clause-tells : goal.returns-in_ok-closed-clause-tells
 returns-in_ok-closed-clause-tells g c =
-    some_thrice g.E.Sink.broken g.E.Sink.held c.args.errors.now c.tell_again.new.errors c.tell_served.new.errors c.serve_desk-left.new.errors
-    c.tell_again.ensures c.tell_served.ensures c.serve_desk-left.ensures.tells
+    some_more g.E.Sink.broken g.E.Sink.held c.args.errors.now c.tell_again.new.errors c.tell_served.new.errors
+    c.tell_again.ensures c.tell_served.ensures
 
 pub returns-else-is_none-clause-tells : goal.returns-else-is_none-clause-tells
 returns-else-is_none-clause-tells g c =
-    some_thrice g.E.Sink.broken g.E.Sink.held c.args.errors.now c.tell_again.new.errors c.tell_served.new.errors c.serve_desk-left.new.errors
-    c.tell_again.ensures c.tell_served.ensures c.serve_desk-left.ensures.tells
+    some_more g.E.Sink.broken g.E.Sink.held c.args.errors.now c.tell_again.new.errors c.tell_served.new.errors
+    c.tell_again.ensures c.tell_served.ensures

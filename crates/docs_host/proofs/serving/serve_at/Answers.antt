@@ -1,6 +1,5 @@
 use Rattle.std.proofs.Common.{◌-◌, arith, subst}
 use Rattle.dh_http.proofs.Moving.{WorldGoesBy-refl, WorldGoesBy-weaker}
-use Rattle.dh_server.proofs.Told.{some_more}
 use Rattle.docs_host.specs.Orders.{ServesBoth}
 use Rattle.docs_host.proofs.Ending.{none_served}
 use Rattle.docs_host.proofs.serving.serve_at.Goals as goal
@@ -25,13 +24,3 @@ returns-in-None-clause-rest g c = (
   WorldGoesBy-weaker c.in-None.ensures.serves
       (λ u v served. subst (λ n. ServesBoth (goal.C-step g) c.args.clock.now c.serve_desk.new.clock n u v) (omega arith) served),
 )
-
-pub returns-in-Some-clause-tells : goal.returns-in-Some-clause-tells
-returns-in-Some-clause-tells g c =
-    some_more g.E.Sink.broken g.E.Sink.held c.args.streams.now.errors c.tell_served.new.errors c.serve_desk.new.errors
-    c.tell_served.ensures c.serve_desk.ensures.tells
-
-pub returns-in-None-clause-tells : goal.returns-in-None-clause-tells
-returns-in-None-clause-tells g c =
-    some_more g.E.Sink.broken g.E.Sink.held c.args.streams.now.errors c.tell_served.new.errors c.serve_desk.new.errors
-    c.tell_served.ensures c.serve_desk.ensures.tells

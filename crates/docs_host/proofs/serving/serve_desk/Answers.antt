@@ -1,8 +1,9 @@
-use Rattle.std.proofs.Common.{subst, sym, ◌∙◌, arith}
+use Rattle.std.proofs.Common.{◌-◌, true, false, subst, sym, ◌∙◌, arith}
 use Rattle.dh_http.specs.Desk.{WorldGoesBy}
 use Rattle.dh_http.proofs.Moving.{WorldGoesBy-weaker}
 use Rattle.dh_server.specs.Serving.{AsksClock}
 use Rattle.docs_host.specs.Orders.{ServesBoth}
+use Rattle.docs_host.proofs.Logging.{told_around}
 use Rattle.docs_host.proofs.serving.serve_desk.Goals as goal
 
 pub returns-then-is_closed-clause-serves : goal.returns-then-is_closed-clause-serves
@@ -24,3 +25,18 @@ pub returns-clause-clocked : goal.returns-clause-clocked
 returns-clause-clocked g c =
     subst (AsksClock (goal.C-step g) c.args.clock.now c.serve_on-served.new.clock)
     (let whole = c.serve_on-served.ensures.all (sym c.is_closed.ensures ∙ c.if-is_closed.false) in omega (arith, whole)) c.serve_on-served.ensures.clocked
+
+pub returns-then-is_closed-clause-tells : goal.returns-then-is_closed-clause-tells
+returns-then-is_closed-clause-tells g c =
+    told_around g.L.Write.contents c.args.file.now c.serve_on-served.new.desk.closed true (sym c.is_closed.ensures ∙ c.if-is_closed.true)
+    c.args.log.now c.tell_server.new.log c.serve_on-served.new.log c.tell_server-then-is_closed.new.log
+    c.serve_on-served.result.asked (c.args.count - (c.args.count - c.serve_on-served.result.asked)) (omega (arith, c.serve_on-served.ensures.few))
+    c.tell_server.ensures c.serve_on-served.ensures.tells c.tell_server-then-is_closed.ensures
+
+pub returns-clause-tells : goal.returns-clause-tells
+returns-clause-tells g c =
+    told_around g.L.Write.contents c.args.file.now c.serve_on-served.new.desk.closed false (sym c.is_closed.ensures ∙ c.if-is_closed.false)
+    c.args.log.now c.tell_server.new.log c.serve_on-served.new.log c.tell_server-2.new.log
+    c.serve_on-served.result.asked (c.args.count - 0)
+    (let whole = c.serve_on-served.ensures.all (sym c.is_closed.ensures ∙ c.if-is_closed.false) in omega (arith, whole))
+    c.tell_server.ensures c.serve_on-served.ensures.tells c.tell_server-2.ensures

@@ -6,4 +6,5 @@ pub returns : goal.returns
 returns g c = record {
   moves = WorldGoesBy-refl (λ w. ([], [], (refl, refl), (refl, refl, refl)));
   counts = (tt, tt);
+  noted = (refl, refl);
 }

@@ -1,0 +1,5 @@
+pub mod Lines
+pub mod Heads
+pub mod Subjects
+pub mod Entries
+pub mod Logs

@@ -1,0 +1,28 @@
+-- A file of this schema, whose tables of derived records (alias, route) are right: a project with a branch, a release and a redirect.
+BEGIN TRANSACTION;
+CREATE TABLE meta (schema INTEGER NOT NULL) STRICT;
+INSERT INTO meta VALUES(2);
+CREATE TABLE alias (host TEXT NOT NULL, class TEXT NOT NULL, name INTEGER NOT NULL, slug TEXT NOT NULL, PRIMARY KEY (host, class, name)) STRICT;
+INSERT INTO alias VALUES('docs.test','',0,'main');
+INSERT INTO alias VALUES('docs.test','',1,'1.0.0');
+INSERT INTO alias VALUES('docs.test','',2,'latest');
+CREATE TABLE route (host TEXT NOT NULL, seg TEXT NOT NULL, place INTEGER NOT NULL, force INTEGER NOT NULL, PRIMARY KEY (host, seg, place)) STRICT;
+INSERT INTO route VALUES('docs.test','old',1,0);
+CREATE TABLE rule (host TEXT NOT NULL, place INTEGER NOT NULL, kind INTEGER NOT NULL, action INTEGER NOT NULL, pattern TEXT NOT NULL, PRIMARY KEY (host, place)) STRICT;
+CREATE TABLE redirect (host TEXT NOT NULL, place INTEGER NOT NULL, kind INTEGER NOT NULL, status INTEGER NOT NULL, force INTEGER NOT NULL, source TEXT NOT NULL, target TEXT NOT NULL, PRIMARY KEY (host, place)) STRICT;
+INSERT INTO redirect VALUES('docs.test',1,1,302,0,'/old/*','/en/latest/:splat');
+CREATE TABLE project (host TEXT NOT NULL, main TEXT NOT NULL, branch TEXT NOT NULL, wkey TEXT NOT NULL, private INTEGER NOT NULL, PRIMARY KEY (host)) STRICT;
+INSERT INTO project VALUES('docs.test','en','main','wkey-1',0);
+CREATE TABLE lang (host TEXT NOT NULL, lang TEXT NOT NULL, place INTEGER NOT NULL, PRIMARY KEY (host, lang)) STRICT;
+INSERT INTO lang VALUES('docs.test','en',1);
+CREATE TABLE version (host TEXT NOT NULL, slug TEXT NOT NULL, name TEXT NOT NULL, kind INTEGER NOT NULL, active INTEGER NOT NULL, hidden INTEGER NOT NULL, private INTEGER NOT NULL, PRIMARY KEY (host, slug)) STRICT;
+INSERT INTO version VALUES('docs.test','main','main',0,1,0,0);
+INSERT INTO version VALUES('docs.test','1.0.0','1.0.0',1,1,0,0);
+CREATE TABLE page (host TEXT NOT NULL, slug TEXT NOT NULL, lang TEXT NOT NULL, path TEXT NOT NULL, media TEXT NOT NULL, body BLOB NOT NULL, PRIMARY KEY (host, slug, lang, path)) STRICT;
+INSERT INTO page VALUES('docs.test','main','en','index.html','text/html',X'6D61696E2D70616765');
+INSERT INTO page VALUES('docs.test','1.0.0','en','index.html','text/html',X'6669727374');
+CREATE TABLE used (host TEXT NOT NULL, slug TEXT NOT NULL, op INTEGER NOT NULL, retry TEXT NOT NULL, answer TEXT NOT NULL, PRIMARY KEY (host, slug, op, retry)) STRICT;
+CREATE TABLE pick (host TEXT NOT NULL, name TEXT NOT NULL, rank INTEGER NOT NULL, PRIMARY KEY (host, name)) STRICT;
+CREATE TABLE pass (host TEXT NOT NULL, pass TEXT NOT NULL, until INTEGER NOT NULL, PRIMARY KEY (host, pass)) STRICT;
+CREATE TABLE holds (host TEXT NOT NULL, pass TEXT NOT NULL, slug TEXT NOT NULL, PRIMARY KEY (host, pass, slug)) STRICT;
+COMMIT;
