@@ -7,8 +7,14 @@ import world as worlds
 
 
 def row_word(text):
-    """A text as a word of a row: one with a control byte stands behind a mark, with percent escapes."""
-    return b"escaped:" + texts.escaped(text) if texts.has_control(text) else text
+    """A text as a word of a row: one that steers a terminal, or begins with the mark, stands behind the mark, with percent escapes."""
+    is_plain = not texts.steers(text) and not text.startswith(b"escaped:")
+    return text if is_plain else b"escaped:" + texts.escaped(text)
+
+
+def text_word(text):
+    """From or To as a word of a row."""
+    return row_word(text) if text else b"none"
 
 
 def privacy(is_private):
@@ -23,12 +29,12 @@ def pattern_text(pattern):
 
 
 def project_row(host, project):
-    return [host, project.languages[0], project.branch, privacy(project.new_private)]
+    return [host, project.languages[0], row_word(project.branch), privacy(project.new_private)]
 
 
 def version_row(version):
     states = [b"active" if version.active else b"inactive", b"hidden" if version.hidden else b"shown"]
-    return [version.kind, version.name, version.slug, *states, privacy(version.private)]
+    return [version.kind, row_word(version.name), version.slug, *states, privacy(version.private)]
 
 
 def rule_row(place, rule):
@@ -36,7 +42,7 @@ def rule_row(place, rule):
 
 
 def redirect_row(place, redirect):
-    words = [b"%d" % place, redirect.kind, b"%d" % redirect.status, redirect.source or b"none", redirect.target or b"none"]
+    words = [b"%d" % place, redirect.kind, b"%d" % redirect.status, text_word(redirect.source), text_word(redirect.target)]
     return words + [b"--force"] * redirect.force
 
 
@@ -51,11 +57,11 @@ def pages_under(project, slug, lang):
 
 
 def page_row(path, media, body):
-    return [path, media, b"%d" % len(body)]
+    return [row_word(path), media, b"%d" % len(body)]
 
 
 def seen_version_row(version):
-    return [b"version", version.kind, version.name, version.slug, b"hidden" if version.hidden else b"shown"]
+    return [b"version", version.kind, row_word(version.name), version.slug, b"hidden" if version.hidden else b"shown"]
 
 
 def lead_rows(name, to):

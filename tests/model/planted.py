@@ -125,6 +125,10 @@ def seen_pages_of_the_main_language(seen, slug, lang):
     return SEEN_PAGE_ROWS(seen, slug, seen.languages[0])
 
 
+def as_it_is(text):
+    return text
+
+
 def private_when_new(host, project):
     return [*PROJECT_ROW(host, project)[:3], b"public"]
 
@@ -164,6 +168,7 @@ PLANTED = [
     ("$rest is a text as any", redirects, "from_old", from_old_without_rest),
     ("the pages of all languages are listed", listings, "pages_under", pages_of_all_languages),
     ("each project is listed as public", listings, "project_row", private_when_new),
+    ("a name stands on a list as it is", listings, "row_word", as_it_is),
     ("each page is seen in the main language", listings, "seen_page_rows", seen_pages_of_the_main_language),
     ("a server stays at the moment when it began", served, "moment_of", moment_of_the_beginning),
 ]

@@ -6,7 +6,7 @@ KEYS = [b"k1", b"k2", b"k3", b"K_4~.-"]
 PASSES = [b"r1", b"r2", b"Reader_7"]
 WKEY = b"wkey-1"
 
-BRANCHES = [b"main", b"Main", b"dev", b"feature/x", b"latest", b"stable", b"1.0.0", b"v1", "é/x".encode()]
+BRANCHES = [b"main", b"Main", b"dev", b"feature/x", b"latest", b"stable", b"1.0.0", b"v1", "é/x".encode(), "x\u202ey".encode()]
 TAGS = [
     *(b"1.0.0", b"v1.0.0", b"1.9.0", b"1.10.0", b"2.0.0", b"v2.0.0", b"2.0.0-rc.1", b"10.0.0", b"0.1.0", b"1.0"),
     *(b"1.0.0+b1", b"1.0.0+b2", b"1.0.0+b10", b"1.0.0-b1", b"stable", b"latest", b"main", b"V3.0.0", b"vv3.0.0", b"01.0.0"),
@@ -16,7 +16,7 @@ TAGS = [
 
 FILES = [b"index.html", b"a.html", b"b.html", b"404.html", b"guide/index.html", b"guide/a.html", b"guide", b"old/a.html"]
 MORE_FILES = ["é.html".encode(), b"a%20b", b"*", b":splat", b"a.html/index.html", b"x.html/b", b"_"]
-MORE_FILES += [b"a?b#c", b".html", b"page"]
+MORE_FILES += [b"a?b#c", b".html", b"page", "c\u009b.html".encode(), b"escaped:d"]
 MEDIA = [b"text/html", b"text/plain;charset=utf-8", b"image/png", b"x"]
 
 FROM_PAGE = [b"/a.html", b"/b.html", b"/*", b"/guide/*", b"/guide", b"/old/*", b"/", b"/index.html"]
@@ -24,7 +24,7 @@ FROM_PAGE += [b"/a*", "/é*".encode(), b"//*"]
 FROM_EXACT = [
     *(b"/", b"/x", b"/x/*", b"/*", b"/old/*", b"/en/latest/*", b"/en/stable/*", b"/en/main/a.html", b"/page/*", b"/fr/*"),
     *(b"//evil.test/*", b"/en/*", b"/en/latest", b"/%41", b"/robots.txt", b"/_/*", "/é".encode(), b"/a?b", b"/x*"),
-    *(b"/X", b"/X/*", b"/x.y/*", b"/x.*", b"/Old/*", b"/a%2Fb/*", b"/x/z", b"/x%2Fz"),
+    *(b"/X", b"/X/*", b"/x.y/*", b"/x.*", b"/Old/*", b"/a%2Fb/*", b"/x/z", b"/x%2Fz", "/\u2028".encode()),
 ]
 TO = [
     *(b"/b.html", b"/a.html", b"/", b"/x", b"/y#top", b"/y?z=1", b"/y?z#top", b"/y#top?z", b"/en/latest/a.html", b"/guide/"),

@@ -28,6 +28,12 @@ def has_control(text):
     return any(byte < 0x20 or byte == 0x7F for byte in text)
 
 
+def steers(text):
+    """Whether a terminal reads a character of the text as an order."""
+    ranges = [(0, 0x1F), (0x7F, 0x9F), (0x2028, 0x202E), (0x2066, 0x2069)]
+    return any(low <= ord(it) <= high for it in text.decode() for low, high in ranges)
+
+
 def is_utf8(text):
     try:
         text.decode("utf-8")

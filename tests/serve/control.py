@@ -403,12 +403,16 @@ def answers(part):
             (b"end 2\n", "", "Control", OTHER_VERSION),
             (b"end 4\n", "", "Control", OTHER_FILE),
             (b"ok\nend 3 Memory\n", "ok\n", "Memory", MET),
+            (b"ok \x1b[2J\nend 0\n", "", "Control", UNTOLD),
+            (b"ok \xc2\x9b2J\nend 0\n", "", "Control", UNTOLD),
+            (b"ok \xff\nend 0\n", "", "Control", UNTOLD),
         ):
             is_fault(part, f"the answer {answer}", ask(part, place, asked, answer)[0], name, says, printed)
         for answer, printed, status, said in (
             (b"ok\nend 0\n", "ok\n", 0, ""),
             (b"no\nend 1 12\n", "no\n", 1, f"docs_host: {WRONG_KEY}\n"),
             (b"end 0\n", "", 0, ""),
+            (b"listed 1\na\t\xc3\xa9\nend 0\n", "listed 1\na\t\u00e9\n", 0, ""),
         ):
             ended, sent = ask(part, place, asked, answer)
             part.same(f"the answer {answer}", (ended.stdout, ended.stderr, ended.returncode), (printed, said, status))

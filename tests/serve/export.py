@@ -55,9 +55,12 @@ add-rule {HOST} 2 branch semver default
 # Commands as an export has them, with words that no line of a script has, or that look like options.
 ODD = [
     ["push", HOST, "<write-key>", "k0", "branch", "a branch"],
+    ["push", HOST, "<write-key>", "k0", "branch", "a\u202etext"],
+    ["push", HOST, "<write-key>", "k0", "tag", "escaped:tag"],
     ["add-pass", "--until", "4102444800", "--", HOST, "-reader"],
     ["grant", "--", HOST, "-reader", "2.0.0"],
     ["add-redirect", HOST, "1", "exact", "301", "/a page", "/en/main/p/2.html"],
+    ["add-redirect", HOST, "2", "exact", "301", "/a\u2066*", "/en/main/\u2069.html"],
     ["add-rule", HOST, "2", "tag", "re:a b", "private"],
     ["add-rule", HOST, "3", "tag", "re:a\tb\nc\r", "public"],
 ]
@@ -72,6 +75,8 @@ PAGES = {
         "empty.txt": ("text/plain", b""),
         "all.bin": ("application/octet-stream", bytes(range(256))),
         "é x?#%.html": ("text/html", "é".encode()),
+        "a\u009b.html": ("text/html", b"a name that steers a terminal"),
+        "escaped:b.html": ("text/html", b"a name with the mark of one"),
         "large.bin": ("application/octet-stream", random.Random(1).randbytes(1_048_576)),
         **{f"p/{number}.html": ("text/html", b"<p>%d</p>" % number) for number in range(300)},
     },
@@ -249,7 +254,7 @@ def moves(part, store, folder):
     before = files_of(folder)
     ended = imported(part, folder, to, key=None, env={"DOCS_KEY": KEY})
     count = f"{sum(map(len, PAGES.values()))} pages; an export of it is the same"
-    ends(part, "an import", ended, 0, "each of which the program accepts", "311 of 311 pages", count)
+    ends(part, "an import", ended, 0, "each of which the program accepts", "313 of 313 pages", count)
     part.check("no key in what it says", KEY not in ended.stderr, ended)
     part.same("the folder is as it was", files_of(folder), before)
     is_same(part, "an export of the import is the same", to, folder)

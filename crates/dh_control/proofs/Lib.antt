@@ -3,4 +3,4 @@ pub mod Cuts
 pub mod Sending
 pub mod Whole
 pub mod Words
-pub mod Noted
+pub mod Means

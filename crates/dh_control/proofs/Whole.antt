@@ -1,8 +1,6 @@
 -- What a message does, by what was read and by what stands behind its head.
-use Rattle.std.proofs.Common.{◌≡◌, ◌∙◌, ℕ, true, ◌||◌, is_err, [], ◌∷◌, ◌++◌, Option, Some, None, Result, Ok, Err, IfOk, IfSome, inl, inr, refl, sym, ap, subst, subst₂}
+use Rattle.std.proofs.Common.{◌≡◌, ◌∙◌, ℕ, true, ◌||◌, is_err, [], ◌∷◌, ◌++◌, Option, Some, None, Result, Ok, Err, IfOk, IfSome, inl, inr, refl, sym, ap, subst}
 use Rattle.std.specs.Io.KnownBytes.{Appends}
-use Rattle.std.specs.Str.{IsUtf8}
-use Rattle.dh_lines.specs.Lines.{line_in}
 use Rattle.dh_lines.specs.declared.lines.Line.{Line}
 use Rattle.dh_lines.specs.declared.lines.Order.{Order}
 use Rattle.dh_lists.specs.declared.lists.ListFault.{ListFault}
@@ -10,16 +8,15 @@ use Rattle.dh_lists.specs.declared.lists.ListFault.TheVariants.{BadRecord, Memor
 use Rattle.dh_script.proofs.Explained.{line, singly}
 use Rattle.dh_script.specs.Explaining.{DoesLineFor, PerformsSingleFor}
 use Rattle.dh_script.specs.Reading.{reader_failed, writer_failed}
-use Rattle.dh_script.specs.Running.{words_in}
 use Rattle.dh_script.specs.Script.{MayDoLine, MayDoSingle}
 use Rattle.dh_script.specs.declared.fault.ScriptFault.{ScriptFault}
 use Rattle.dh_script.specs.declared.reasons.Reason.{Reason}
 use Rattle.dh_world.specs.World.{Text, World}
-use Rattle.dh_control.specs.Answers.{AnswersMessage, DoesBody, DoesBy, DoesFor, DoesImport, DoesList, DoesListed, DoesMessage, DoesNone, DoesOne, DoesOneLine, DoesRest, DoesSentLine, DoesWords, HasLastLine, TakesMessage, unlisted}
+use Rattle.dh_control.specs.Answers.{AnswersMessage, DoesListed, DoesMessage, DoesNone, DoesOne, DoesOneLine, DoesWords, HasLastLine, TakesMessage, unlisted}
 use Rattle.dh_control.specs.Ends.{end_of}
 use Rattle.dh_control.specs.Notes.{IsSubjectIn, NotesMessage}
 use Rattle.dh_log.specs.declared.subject.Subject.{Subject}
-use Rattle.dh_control.specs.Messages.{behind, body_of, host_and_list, import_mark, line_mark, rest_for, words_mark}
+use Rattle.dh_control.specs.Messages.{behind}
 use Rattle.dh_control.specs.declared.end.End.{End}
 use Rattle.dh_control.specs.declared.end.End.TheVariants.{Unknown}
 
@@ -32,26 +29,6 @@ one_failed moment before order after held now (Err fault) is may = may
 pub nothing_done : {E : Type 0} (moment : ℕ) (before : World) (line : Option Line) (held now : Option Text) (fault : E) → DoesWords {E = E} moment before line before held now (Err fault)
 nothing_done moment before None held now fault = refl
 nothing_done moment before (Some line) held now fault = inl refl
-
--- the same, where the fault is handed on
-pub nothing_failed : {E : Type 0} (moment : ℕ) (before : World) (line : Option Line) (held now : Option Text) (result : Result End E) → is_err result ≡ true → DoesWords moment before line before held now result
-nothing_failed moment before line held now (Ok end) is = let no : ⊥ = cc in absurd no
-nothing_failed moment before line held now (Err fault) is = nothing_done moment before line held now fault
-
--- what words did that ended by a fault, which is handed on
-pub words_failed
-    : {E F : Type 0} (moment : ℕ) (before : World) (line : Option Line) (after : World) (held now : Option Text) (fault : E) (result : Result End F) → is_err result ≡ true
-    → DoesWords {E = E} moment before line after held now (Err fault) → DoesWords moment before line after held now result
-words_failed moment before line after held now fault (Ok end) is did = let no : ⊥ = cc in absurd no
-words_failed moment before None after held now fault (Err handed) is did = did
-words_failed moment before (Some line) after held now fault (Err handed) is did = did
-
--- and what they did that ended by none
-pub words_ended
-    : (E F : Type 0) (moment : ℕ) (before : World) (line : Option Line) (after : World) (held now : Option Text) (end : End)
-    → DoesWords {E = E} moment before line after held now (Ok end) → DoesWords {E = F} moment before line after held now (Ok end)
-words_ended E F moment before None after held now end did = did
-words_ended E F moment before (Some line) after held now end did = did
 
 -- what a single order printed was written, or was not
 pub one_told
@@ -94,42 +71,6 @@ pub unlisted_does : (moment : ℕ) (world : World) (host : Text) (held : Option 
 unlisted_does moment world host held (BadRecord number fault) result is =
     subst (λ (r : Result End ScriptFault). DoesNone Unknown world world held held r) (sym is) (refl, refl, refl)
 unlisted_does moment world host held Memory result is = (refl, ap is_err is)
-
--- what was sent is text
-module _ (moment : ℕ) (before after : World) (held now : Option Text) (result : Result End ScriptFault) where
-  pub line_sent : (line_text sent : Text) → line_text ≡ sent → IsUtf8 sent → DoesOneLine moment before (line_in (words_in line_text)) after held now result
-      → DoesSentLine moment sent before after held now result
-  line_sent line_text sent same is did =
-      inl (is, subst (λ (l : Text). DoesOneLine moment before (line_in (words_in l)) after held now result) same did)
-
-  pub import_sent : (sent host list named : Text) → Some (host, list) ≡ host_and_list sent → named ≡ host → IsUtf8 host → DoesList moment before named list after held now result
-      → DoesImport moment before (host_and_list sent) after held now result
-  import_sent sent host list named found same is did =
-      subst (λ (p : Option (Text × Text)). DoesImport moment before p after held now result) found
-      (inl (is, subst (λ (h : Text). DoesList moment before h list after held now result) same did))
-
-  pub import_unsent : (sent host list : Text) → Some (host, list) ≡ host_and_list sent → (IsUtf8 host → ⊥) → DoesNone Unknown before after held now result
-      → DoesImport moment before (host_and_list sent) after held now result
-  import_unsent sent host list found none did =
-      subst (λ (p : Option (Text × Text)). DoesImport moment before p after held now result) found (inr (none, did))
-
--- what stands behind the head of a body was done, and the body of a message
-module _ (moment : ℕ) (before after : World) (held now : Option Text) (result : Result End ScriptFault) where
-  pub rest_done : (rest : Text) (sent line sent_import : Option Text) → sent ≡ behind words_mark rest → line ≡ behind line_mark rest → sent_import ≡ behind import_mark rest
-      → DoesBy moment sent line sent_import before after held now result → DoesRest moment rest before after held now result
-  rest_done rest sent line sent_import words lines imports does =
-      let first = subst₂ (λ s t. DoesBy moment s t sent_import before after held now result) words lines does in
-      subst (λ i. DoesBy moment (behind words_mark rest) (behind line_mark rest) i before after held now result) imports first
-
-  pub import_none : (sent : Text) → None ≡ host_and_list sent
-      → DoesImport moment before None after held now result → DoesImport moment before (host_and_list sent) after held now result
-  import_none sent is does = subst (λ p. DoesImport moment before p after held now result) is does
-
-  pub body_done : (file body : Text) (rest : Option Text) → rest ≡ rest_for file body → DoesFor moment body rest before after held now result → DoesBody moment file (Some body) before after held now result
-  body_done file body rest is does = subst (λ r. DoesFor moment body r before after held now result) is does
-
-  pub message_done : (file message : Text) (body : Option Text) → body ≡ body_of message → DoesBody moment file body before after held now result → DoesMessage moment file message before after held now result
-  message_done file message body is does = subst (λ b. DoesBody moment file b before after held now result) is does
 
 -- the message that was read was done
 pub message_taken : (moment : ℕ) (file : Text) (left held now : Option Text) (before after : World) (message sent : Text) (ended : Result End ScriptFault)

@@ -3,10 +3,9 @@ use Rattle.std.specs.Prelude.{◌≡◌, ◌≢◌, ◌⊎◌, ℕ, ◌==◌, tr
 use Rattle.std.specs.Io.KnownBytes.{Appends}
 use Rattle.std.specs.List.{All, slice_split}
 use Rattle.std.specs.Str.{IsUtf8}
-use Rattle.dh_lines.specs.Lines.{asking, line_in}
+use Rattle.dh_lines.specs.Lines.{ordering, line_in}
 use Rattle.dh_lines.specs.declared.lines.Line.{Line}
 use Rattle.dh_lines.specs.declared.lines.Order.{Order}
-use Rattle.dh_lines.specs.declared.lines.Order.TheVariants.{Act}
 use Rattle.dh_lists.specs.Lists.{ReadsList}
 use Rattle.dh_lists.specs.declared.lists.ListFault.{ListFault}
 use Rattle.dh_lists.specs.declared.lists.ListFault.TheVariants.{BadRecord, Memory}
@@ -67,7 +66,7 @@ DoesSentLine moment sent before after held now result =
 
 -- the command that adds these redirects to those of a project
 abbrev pub importing : Text → List Redirect → Order
-importing host list = Act (asking host (ImportRedirects list))
+importing host list = ordering host (ImportRedirects list)
 
 -- how an import ends whose list was not read
 abbrev pub unlisted : ListFault → Result End ScriptFault

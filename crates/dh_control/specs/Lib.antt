@@ -1,4 +1,5 @@
 pub mod Answers
+pub mod Asked
 pub mod Cutting
 pub mod Ends
 pub mod Messages

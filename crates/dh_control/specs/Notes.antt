@@ -5,7 +5,10 @@ use Rattle.std.specs.Option.{option_and_then}
 use Rattle.dh_lines.specs.Lines.{line_in}
 use Rattle.dh_lines.specs.declared.lines.Line.{Line}
 use Rattle.dh_lines.specs.declared.lines.Order.{Order}
-use Rattle.dh_lines.specs.declared.lines.Order.TheVariants as order
+use Rattle.dh_lines.specs.declared.lines.Order.TheVariants.{Desk, File, Program}
+use Rattle.dh_lines.specs.declared.lines.DeskOrder.TheVariants as desk
+use Rattle.dh_lines.specs.declared.lines.FileOrder.TheVariants.{Init, Migrate}
+use Rattle.dh_lines.specs.declared.lines.ProgramOrder.TheVariants.{Script, Answer, Serve}
 use Rattle.dh_listings.specs.declared.words.ListWord.{ListWord}
 use Rattle.dh_listings.specs.declared.words.ListWord.TheVariants.{Projects, OfProject, Seen}
 use Rattle.dh_listings.specs.declared.words.ProjectList.{ProjectList}
@@ -37,15 +40,15 @@ IsOfList (Seen host pass moment) = IsSubject (codes "list-seen") host []
 
 -- the subject is of this order
 abbrev pub IsOfOrder : Order → Subject → Type 0
-IsOfOrder (order.Act command) = IsOrderSubject command
-IsOfOrder (order.Get host target pass moment) = IsSubject (codes "get") host []
-IsOfOrder (order.Import host list) = IsSubject (codes "import") host []
-IsOfOrder (order.List word) = IsOfList word
-IsOfOrder (order.Init file) = IsSubject (codes "init") [] []
-IsOfOrder (order.Migrate file) = IsSubject (codes "migrate") [] []
-IsOfOrder order.Script = IsSubject (codes "script") [] []
-IsOfOrder order.Answer = IsSubject (codes "answer") [] []
-IsOfOrder (order.Serve count port log wait) = IsSubject (codes "serve") [] []
+IsOfOrder (Desk (desk.Act command)) = IsOrderSubject command
+IsOfOrder (Desk (desk.Get host target pass moment)) = IsSubject (codes "get") host []
+IsOfOrder (Desk (desk.Import host list)) = IsSubject (codes "import") host []
+IsOfOrder (Desk (desk.List word)) = IsOfList word
+IsOfOrder (File (Init file)) = IsSubject (codes "init") [] []
+IsOfOrder (File (Migrate file)) = IsSubject (codes "migrate") [] []
+IsOfOrder (Program Script) = IsSubject (codes "script") [] []
+IsOfOrder (Program Answer) = IsSubject (codes "answer") [] []
+IsOfOrder (Program (Serve count port log wait)) = IsSubject (codes "serve") [] []
 
 -- the subject is of the order of a line
 abbrev pub IsOfLine : Option Line → Subject → Type 0

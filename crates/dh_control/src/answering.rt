@@ -1,29 +1,25 @@
 //! One message: read, done and answered.
 
-ghost use Rattle.std.specs.Prelude.{◌≡◌, ◌+◌, ◌||◌, true, false, is_err, [], ◌∷◌, ◌++◌, map, string_bytes, IfOk, IfSome, Some, None, OnOk};
+ghost use Rattle.std.specs.Prelude.{◌≡◌, ◌+◌, ◌||◌, true, false, is_err, [], ◌∷◌, ◌++◌, string_bytes, IfOk, IfSome, None, OnOk};
 ghost use Rattle.std.specs.Io.KnownBytes.{Appends};
 ghost use Rattle.dh_desk.specs.Desk.{WorldGoesBy};
-ghost use Rattle.dh_lines.specs.Lines.{line_in};
 ghost use Rattle.dh_ports.specs.Ports.{CountsUpTo};
 ghost use Rattle.dh_ports.specs.Reading.{TookAtMost};
 ghost use Rattle.dh_script.specs.Reading.{reader_failed, writer_failed};
-ghost use Rattle.dh_script.specs.Running.{stopped_by_writer, words_in};
+ghost use Rattle.dh_script.specs.Running.{stopped_by_writer};
 ghost use Rattle.dh_control.specs.Answers as spec;
-ghost use Rattle.dh_control.specs.Answers.{AnswersMessage, DoesBody, DoesImport, DoesList, DoesMessage};
-ghost use Rattle.dh_control.specs.Answers.{DoesOne, DoesOneLine, DoesRest, DoesSent, DoesSentLine};
-ghost use Rattle.dh_control.specs.Answers.{DoesWords, HasLastLine, IsEndTold, TakesMessage};
+ghost use Rattle.dh_control.specs.Answers.{AnswersMessage, DoesList, DoesMessage, DoesOne, DoesOneLine};
+ghost use Rattle.dh_control.specs.Answers.{HasLastLine, IsEndTold, TakesMessage};
+ghost use Rattle.dh_control.specs.Asked.{DoesAsked};
 ghost use Rattle.dh_control.specs.Ends.{end_line, end_of as spec_end_of};
-ghost use Rattle.dh_control.specs.Messages as messages;
 ghost use Rattle.dh_control.specs.Notes.{IsSubjectIn, NotesMessage};
 
+use crate::asked::{Asked, read_message};
 use crate::end::{End, end_name, end_number, end_of};
-use crate::message::{
-    IMPORT, LINE, MOST_MESSAGE_BYTES, VERSION, WORDS, behind, body_of, host_and_list, rest_for,
-    words_of,
-};
-use crate::note::subject_in;
+use crate::message::MOST_MESSAGE_BYTES;
+use crate::note::noted_of;
 use dh_desk::Desk;
-use dh_lines::{LineFault, Order, line_of};
+use dh_lines::{DeskOrder, Line, Order};
 use dh_lists::{ListFault, read_list};
 use dh_log::Subject;
 use dh_paths::Text;
@@ -64,92 +60,31 @@ fn do_order<S: Alter, W: Sink>(
     tell_printed(sink, &printed)
 }
 
-/// Does what some words order, as words of the program.
-fn do_words<S: Alter, W: Sink>(
-    alloc: Global,
-    desk: &mut Desk<S>,
-    words: &[String],
-    sink: &mut W,
-    now: u64,
-) -> Result<End, RunFault>
-    requires { W.broken sink.old ≡ false }
-    ensures broken { W.broken sink.new ≡ stopped_by_writer result }
-    ensures does { WorldGoesBy S.Store desk.old desk.new (λ before after.
-        DoesWords now before (line_in (map string_bytes words.now)) after
-        (W.held sink.old) (W.held sink.new) result) }
-{
-    match line_of(alloc, words) {
-        Ok(line) => do_order(alloc, desk, &line.order, sink, now),
-        Err(LineFault::Usage) => Ok(End::Unknown),
-        Err(LineFault::Memory) => Err(RunFault::Memory),
-    }
-}
-
-/// Does what was sent as words.
-fn do_sent<S: Alter, W: Sink>(
-    alloc: Global,
-    desk: &mut Desk<S>,
-    sent: &[u8],
-    sink: &mut W,
-    now: u64,
-) -> Result<End, ScriptFault>
-    requires { W.broken sink.old ≡ false }
-    ensures broken { W.broken sink.new ≡ writer_failed result }
-    ensures does { WorldGoesBy S.Store desk.old desk.new (λ before after.
-        DoesSent now sent.now before after (W.held sink.old) (W.held sink.new) result) }
-{
-    let Ok(text) = str::from_utf8(sent) else {
-        return Ok(End::Unknown);
-    };
-    let words = words_of(alloc, text).map_err(|_| RunFault::Memory)?;
-    Ok(do_words(alloc, desk, words.as_slice(), sink, now)?)
-}
-
 /// Does a line of a script, and writes what it prints.
 fn do_line<S: Alter, W: Sink>(
     alloc: Global,
     desk: &mut Desk<S>,
-    line: &str,
+    line: &Option<Line>,
     sink: &mut W,
     now: u64,
 ) -> Result<End, RunFault>
     requires { W.broken sink.old ≡ false }
     ensures broken { W.broken sink.new ≡ stopped_by_writer result }
     ensures does { WorldGoesBy S.Store desk.old desk.new (λ before after.
-        DoesOneLine now before (line_in (words_in line.now)) after
-        (W.held sink.old) (W.held sink.new) result) }
+        DoesOneLine now before line.now after (W.held sink.old) (W.held sink.new) result) }
 {
     let printed = perform_line(alloc, desk, line, now)?;
     tell_printed(sink, &printed)
-}
-
-/// Does what was sent as a line of a script.
-fn do_sent_line<S: Alter, W: Sink>(
-    alloc: Global,
-    desk: &mut Desk<S>,
-    sent: &[u8],
-    sink: &mut W,
-    now: u64,
-) -> Result<End, ScriptFault>
-    requires { W.broken sink.old ≡ false }
-    ensures broken { W.broken sink.new ≡ writer_failed result }
-    ensures does { WorldGoesBy S.Store desk.old desk.new (λ before after.
-        DoesSentLine now sent.now before after (W.held sink.old) (W.held sink.new) result) }
-{
-    match str::from_utf8(sent) {
-        Ok(line) => Ok(do_line(alloc, desk, line, sink, now)?),
-        Err(_) => Ok(End::Unknown),
-    }
 }
 
 /// Makes the order that adds these redirects to those of a project.
 fn importing(alloc: Global, host: &str, list: Redirects) -> Result<Order, AllocError>
     ensures { IfOk result (λ order. order ≡ spec.importing host.now list) }
 {
-    Ok(Order::Act(Command {
+    Ok(Order::Desk(DeskOrder::Act(Command {
         host: Text::copy_of(alloc, host)?,
         change: CommandChange::ImportRedirects { list },
-    }))
+    })))
 }
 
 /// Adds the redirects of a list to those of a project, and writes what came of it.
@@ -204,86 +139,28 @@ fn do_list<S: Alter, W: Sink>(
     }
 }
 
-/// Does what was sent as an import.
-fn do_import<S: Alter, W: Sink>(
-    alloc: Global,
-    desk: &mut Desk<S>,
-    sent: &[u8],
-    sink: &mut W,
-    now: u64,
-) -> Result<End, ScriptFault>
-    requires { W.broken sink.old ≡ false }
-    ensures broken { W.broken sink.new ≡ writer_failed result }
-    ensures does { WorldGoesBy S.Store desk.old desk.new (λ before after.
-        DoesImport now before (messages.host_and_list sent.now) after
-        (W.held sink.old) (W.held sink.new) result) }
-{
-    let Some((host, list)) = host_and_list(sent) else {
-        return Ok(End::Unknown);
-    };
-    match str::from_utf8(host) {
-        Ok(host) => do_list(alloc, desk, host, list, sink, now),
-        Err(_) => Ok(End::Unknown),
-    }
-}
-
-/// Does what stands behind the head of a message.
-fn do_rest<S: Alter, W: Sink>(
-    alloc: Global,
-    desk: &mut Desk<S>,
-    rest: &[u8],
-    sink: &mut W,
-    now: u64,
-) -> Result<End, ScriptFault>
-    requires { W.broken sink.old ≡ false }
-    ensures broken { W.broken sink.new ≡ writer_failed result }
-    ensures does { WorldGoesBy S.Store desk.old desk.new (λ before after.
-        DoesRest now rest.now before after (W.held sink.old) (W.held sink.new) result) }
-{
-    if let Some(sent) = behind(WORDS, rest) {
-        return do_sent(alloc, desk, sent, sink, now);
-    }
-    if let Some(line) = behind(LINE, rest) {
-        return do_sent_line(alloc, desk, line, sink, now);
-    }
-    match behind(IMPORT, rest) {
-        Some(sent) => do_import(alloc, desk, sent, sink, now),
-        None => Ok(End::Unknown),
-    }
-}
-
-/// How a message ends that has not the head of this server's file.
-fn end_of_other(body: &[u8]) -> End
-    ensures { result ≡ spec.end_of_other body.now }
-{
-    match behind(VERSION, body) {
-        Some(_) => End::Elsewhere,
-        None => End::Unknown,
-    }
-}
-
-/// Does what a whole message asks for, where it is for this file.
-fn do_body<S: Alter, W: Sink>(
-    alloc: Global,
-    desk: &mut Desk<S>,
-    file: &str,
-    body: &[u8],
-    sink: &mut W,
-    now: u64,
-) -> Result<End, ScriptFault>
-    requires { W.broken sink.old ≡ false }
-    ensures broken { W.broken sink.new ≡ writer_failed result }
-    ensures does { WorldGoesBy S.Store desk.old desk.new (λ before after.
-        DoesBody now file.now (Some body.now) before after
-        (W.held sink.old) (W.held sink.new) result) }
-{
-    match rest_for(file, body) {
-        Some(rest) => do_rest(alloc, desk, rest, sink, now),
-        None => Ok(end_of_other(body)),
-    }
-}
-
 /// Does what a message asks for, and writes what is printed.
+fn do_asked<S: Alter, W: Sink>(
+    alloc: Global,
+    desk: &mut Desk<S>,
+    asked: &Asked<'_>,
+    sink: &mut W,
+    now: u64,
+) -> Result<End, ScriptFault>
+    requires { W.broken sink.old ≡ false }
+    ensures broken { W.broken sink.new ≡ writer_failed result }
+    ensures does { WorldGoesBy S.Store desk.old desk.new (λ before after.
+        DoesAsked now before asked.now after (W.held sink.old) (W.held sink.new) result) }
+{
+    match asked {
+        Asked::Words(line) => Ok(do_order(alloc, desk, &line.order, sink, now)?),
+        Asked::Line(line) => Ok(do_line(alloc, desk, line, sink, now)?),
+        Asked::Import { host, list } => do_list(alloc, desk, *host, *list, sink, now),
+        Asked::Nothing(end) => Ok(*end),
+    }
+}
+
+/// Reads what a message asks for, notes it for a log, where that is wanted, and does it.
 fn do_message<S: Alter, W: Sink>(
     alloc: Global,
     desk: &mut Desk<S>,
@@ -291,16 +168,24 @@ fn do_message<S: Alter, W: Sink>(
     message: &[u8],
     sink: &mut W,
     now: u64,
+    is_noted: bool,
+    noted: &mut Option<Subject>,
 ) -> Result<End, ScriptFault>
-    requires { W.broken sink.old ≡ false }
+    requires writer { W.broken sink.old ≡ false }
+    requires none { noted.old ≡ None }
     ensures broken { W.broken sink.new ≡ writer_failed result }
     ensures does { WorldGoesBy S.Store desk.old desk.new (λ before after.
         DoesMessage now file.now message.now before after
         (W.held sink.old) (W.held sink.new) result) }
+    ensures noted { IfSome noted.new (IsSubjectIn file.now message.now) }
+    ensures unnoted { is_noted ≡ false → noted.new ≡ None }
 {
-    match body_of(message) {
-        Some(body) => do_body(alloc, desk, file, body, sink, now),
-        None => Ok(End::Unknown),
+    match read_message(alloc, file, message) {
+        Ok(asked) => {
+            *noted = noted_of(alloc, &asked, is_noted);
+            do_asked(alloc, desk, &asked, sink, now)
+        }
+        Err(_) => Err(ScriptFault::Run(RunFault::Memory)),
     }
 }
 
@@ -326,18 +211,6 @@ fn tell_end<W: Sink>(sink: &mut W, ended: Result<End, ScriptFault>) -> Result<En
     match put_end(sink, ended) {
         Ok(()) => ended,
         Err(_) => Err(ScriptFault::Run(RunFault::Write)),
-    }
-}
-
-/// What a message asks for, where that is wanted.
-fn note_message(alloc: Global, file: &str, message: &[u8], is_noted: bool) -> Option<Subject>
-    ensures noted { IfSome result (IsSubjectIn file.now message.now) }
-    ensures unnoted { is_noted ≡ false → result ≡ None }
-{
-    if is_noted {
-        subject_in(alloc, file, message)
-    } else {
-        None
     }
 }
 
@@ -367,11 +240,16 @@ fn take_message<S: Alter, R: Source, W: Sink>(
 {
     *noted = None;
     match read_script(alloc, source, MOST_MESSAGE_BYTES) {
-        Ok(message) => {
-            let bytes = message.as_slice();
-            *noted = note_message(alloc, file, bytes, is_noted);
-            do_message(alloc, desk, file, bytes, sink, now)
-        }
+        Ok(message) => do_message(
+            alloc,
+            desk,
+            file,
+            message.as_slice(),
+            sink,
+            now,
+            is_noted,
+            noted,
+        ),
         Err(fault) => Err(fault),
     }
 }

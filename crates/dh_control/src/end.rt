@@ -1,9 +1,11 @@
 //! How a message ends.
 
 ghost use Rattle.std.specs.Prelude.{◌≡◌};
+ghost use Rattle.dh_control.specs.Answers as answers;
 ghost use Rattle.dh_control.specs.Ends as spec;
 ghost use Rattle.dh_control.specs.Ends.{ReadsEnd, ReadsRefused};
 
+use crate::message::{VERSION, behind};
 use dh_ports::Stop;
 use dh_script::{Reason, RunFault, ScriptFault, read_reason};
 
@@ -27,6 +29,16 @@ pub fn end_of(reason: Option<Reason>) -> End
     match reason {
         Some(reason) => End::Refused(reason),
         None => End::Done,
+    }
+}
+
+/// How a message ends that has not the head of this server's file.
+pub fn end_of_other(body: &[u8]) -> End
+    ensures { result ≡ answers.end_of_other body.now }
+{
+    match behind(VERSION, body) {
+        Some(_) => End::Elsewhere,
+        None => End::Unknown,
     }
 }
 

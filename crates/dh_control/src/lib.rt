@@ -3,6 +3,7 @@
 #![tactic(auto)]
 
 mod answering;
+mod asked;
 mod asking;
 mod cutting;
 mod end;

@@ -23,8 +23,7 @@ use Rattle.dh_word_tables.proofs.TokenLemmas.{Token, chosen, written, text_of, F
 use Rattle.dh_word_tables.proofs.TokenLemmas.{tokens_level}
 use Rattle.dh_word_tables.proofs.FormLemmas.{form_matches, form_fails, stray_fails}
 use Rattle.dh_lines.specs.App.{docs_app, bare_app, with_store}
-use Rattle.dh_lines.specs.Lines.{line_in, as_line, asking, named_line, line_with, unless_faulty}
-use Rattle.dh_lines.specs.Lines.{change_in, access_in, redirect_change_in, rule_change_in}
+use Rattle.dh_lines.specs.Lines.{line_in, as_line, ordering, named_line, line_with, unless_faulty, change_in}
 use Rattle.dh_lines.specs.Lines.{OrdersLine, OrdersOnVersion, OrdersRedirectBy}
 use Rattle.dh_lines.specs.Lines.{OrdersRuleOf, OrdersRule}
 use Rattle.dh_redirects.specs.Redirects.{redirect_kind_of, redirect_status_of}
@@ -32,7 +31,6 @@ use Rattle.dh_lines.specs.Lines.{redirect_of, place_of}
 use Rattle.dh_lines.specs.Lines.{rule_of, kind_of, pattern_of, action_of}
 use Rattle.dh_lines.specs.declared.lines.Line.{Line}
 use Rattle.dh_lines.specs.declared.lines.Order.{Order}
-use Rattle.dh_lines.specs.declared.lines.Order.TheVariants.{Act}
 use Rattle.dh_lines.proofs.PatternLemmas.{pattern_of-text, pattern_is_plain}
 
 quiet : IsQuiet (built docs_app)
@@ -134,7 +132,7 @@ form_line name ts order fits reads = read_line name ts (Some order) order fits r
 
 -- what a command orders, by the change that its words read as
 abbrev pub acting : Text → Option CommandChange → Option Order
-acting host change = option_map Act (option_map (asking host) change)
+acting host change = option_map (ordering host) change
 
 -- `NAME HOST WORD` orders the change that is made of the word
 pub word_line : (name : Text) (change : Text → CommandChange)
@@ -150,7 +148,7 @@ pub place_line : (name : Text) (change : ℕ → CommandChange)
     (acting host (option_map change (place_of place))))
     → (host place_word : Text) (place : ℕ) → ArePlain (host ∷ place_word ∷ [])
     → place_of place_word ≡ Some place
-    → OrdersLine (name ∷ host ∷ place_word ∷ []) (Act (asking host (change place)))
+    → OrdersLine (name ∷ host ∷ place_word ∷ []) (ordering host (change place))
 place_line name change reads host place_word place plain is_place =
     read_line name (chosen host ∷ chosen place_word ∷ []) _ _ plain (reads host place_word)
     (ap (λ p. acting host (option_map change p)) is_place)
@@ -196,7 +194,7 @@ rule_by host place kind pattern action =
 rule_reads : (host place kind pattern action : Text) → ReadsAs (codes "add-rule")
     (chosen host ∷ chosen place ∷ chosen kind ∷ chosen pattern ∷ chosen action ∷ [])
     (rule_by host (place_of place) (kind_of kind) (pattern_of pattern) (action_of action))
-unfolding defaults_fault change_in access_in redirect_change_in rule_change_in
+unfolding defaults_fault change_in
 rule_reads host place kind pattern action = (refl, λ file. refl)
 
 module _ (word : Text) (action : Action) (word_plain : is_plain_word word ≡ true)

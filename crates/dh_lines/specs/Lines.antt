@@ -33,6 +33,7 @@ use Rattle.dh_world.specs.declared.command.CommandChange.TheVariants.{AddPass, D
 use Rattle.dh_world.specs.declared.command.CommandChange.TheVariants.{Revoke, AddRedirect}
 use Rattle.dh_world.specs.declared.command.CommandChange.TheVariants.{DropRedirect, AddRule}
 use Rattle.dh_world.specs.declared.command.CommandChange.TheVariants.{DropRule}
+use Rattle.dh_listings.specs.declared.words.ListWord.{ListWord}
 use Rattle.dh_listings.specs.declared.words.ListWord.TheVariants.{Projects, OfProject, Seen}
 use Rattle.dh_listings.specs.declared.words.ProjectList.{ProjectList}
 use Rattle.dh_listings.specs.declared.words.ProjectList.TheVariants.{Langs, Versions, Defaults, Rules}
@@ -41,9 +42,11 @@ use Rattle.dh_word_tables.specs.Words.{is_plain_word, ArePlain}
 use Rattle.dh_lines.specs.App.{docs_app}
 use Rattle.dh_lines.specs.declared.lines.Line.{Line}
 use Rattle.dh_lines.specs.declared.lines.Order.{Order}
-use Rattle.dh_lines.specs.declared.lines.Order.TheVariants as order
-use Rattle.dh_lines.specs.declared.lines.Order.TheVariants.{Act, Get, Import, Init, Migrate, Script}
-use Rattle.dh_lines.specs.declared.lines.Order.TheVariants.{Answer, Serve}
+use Rattle.dh_lines.specs.declared.lines.Order.TheVariants.{Desk, File, Program}
+use Rattle.dh_lines.specs.declared.lines.DeskOrder.TheVariants as desk
+use Rattle.dh_lines.specs.declared.lines.DeskOrder.TheVariants.{Act, Get, Import}
+use Rattle.dh_lines.specs.declared.lines.FileOrder.TheVariants.{Init, Migrate}
+use Rattle.dh_lines.specs.declared.lines.ProgramOrder.TheVariants.{Script, Answer, Serve}
 use Rattle.dh_lines.specs.declared.lines.LineFault.{LineFault}
 use Rattle.dh_lines.specs.declared.lines.LineFault.TheVariants.{Usage, Memory}
 
@@ -273,21 +276,22 @@ abbrev pub get_in : List Row → Option Order
 get_in rows =
     with_word (codes "host") rows (λ host.
     with_word (codes "target") rows (λ target.
-    option_map (Get host target (first_of (codes "pass") rows)) (moment_in (codes "now") rows)))
+    option_map (λ moment. Desk (Get host target (first_of (codes "pass") rows) moment))
+    (moment_in (codes "now") rows)))
 
 -- `import HOST LIST`
 abbrev pub import_in : List Row → Option Order
 import_in rows =
     with_word (codes "host") rows (λ host.
-    with_word (codes "list") rows (λ list. Some (Import host list)))
+    with_word (codes "list") rows (λ list. Some (Desk (Import host list))))
 
 -- `init FILE`
 abbrev pub init_in : List Row → Option Order
-init_in rows = with_word (codes "file") rows (λ file. Some (Init file))
+init_in rows = with_word (codes "file") rows (λ file. Some (File (Init file)))
 
 -- `migrate FILE`
 abbrev pub migrate_in : List Row → Option Order
-migrate_in rows = with_word (codes "file") rows (λ file. Some (Migrate file))
+migrate_in rows = with_word (codes "file") rows (λ file. Some (File (Migrate file)))
 
 -- the count of a line
 abbrev pub count_in : List Row → Option ℕ
@@ -310,31 +314,8 @@ abbrev pub serve_in : List Row → Option Order
 serve_in rows =
     option_and_then (λ count.
     option_and_then (λ port.
-    option_map (Serve count port (is_flag_given (codes "log") rows)) (wait_in rows)) (port_in rows))
-    (count_in rows)
-
--- the change of a line on rules, or on one version
-unfoldable pub rule_change_in : Text → List Row → Option CommandChange
-rule_change_in name rows =
-    if bytes_eq name (codes "add-rule") then add_rule_in rows
-    else if bytes_eq name (codes "drop-rule") then drop_rule_in rows
-    else version_change name rows
-
--- the change of a line on redirects, on rules, or on one version
-unfoldable pub redirect_change_in : Text → List Row → Option CommandChange
-redirect_change_in name rows =
-    if bytes_eq name (codes "add-redirect") then add_redirect_in rows
-    else if bytes_eq name (codes "drop-redirect") then drop_redirect_in rows
-    else rule_change_in name rows
-
--- the change of a line on a pass, on redirects, on rules, or on one version
-unfoldable pub access_in : Text → List Row → Option CommandChange
-access_in name rows =
-    if bytes_eq name (codes "add-pass") then add_pass_in rows
-    else if bytes_eq name (codes "drop-pass") then drop_pass_in rows
-    else if bytes_eq name (codes "grant") then grant_in rows
-    else if bytes_eq name (codes "revoke") then revoke_in rows
-    else redirect_change_in name rows
+    option_map (λ wait. Program (Serve count port (is_flag_given (codes "log") rows) wait))
+    (wait_in rows)) (port_in rows)) (count_in rows)
 
 -- the change of a line
 unfoldable pub change_in : Text → List Row → Option CommandChange
@@ -343,66 +324,71 @@ change_in name rows =
     else if bytes_eq name (codes "add-lang") then add_lang_in rows
     else if bytes_eq name (codes "push") then push_in rows
     else if bytes_eq name (codes "upload") then upload_in rows
-    else access_in name rows
+    else if bytes_eq name (codes "add-pass") then add_pass_in rows
+    else if bytes_eq name (codes "drop-pass") then drop_pass_in rows
+    else if bytes_eq name (codes "grant") then grant_in rows
+    else if bytes_eq name (codes "revoke") then revoke_in rows
+    else if bytes_eq name (codes "add-redirect") then add_redirect_in rows
+    else if bytes_eq name (codes "drop-redirect") then drop_redirect_in rows
+    else if bytes_eq name (codes "add-rule") then add_rule_in rows
+    else if bytes_eq name (codes "drop-rule") then drop_rule_in rows
+    else version_change name rows
 
 -- the command that asks for this change under a host
 abbrev pub asking : Text → CommandChange → Command
 asking host change = record { host = host; change = change }
 
+-- the order to change the project of a host so
+abbrev pub ordering : Text → CommandChange → Order
+ordering host change = Desk (Act (asking host change))
+
 -- the command of a line: each names its host
-abbrev pub command_in : Text → List Row → Option Command
+abbrev pub command_in : Text → List Row → Option Order
 command_in name rows =
     with_word (codes "host") rows (λ host.
-    option_map (asking host) (change_in name rows))
+    option_map (ordering host) (change_in name rows))
 
--- the list of a project that a word of this name asks for
-abbrev pub list_named : Text → Option ProjectList
-list_named name =
-    if bytes_eq name (codes "list-langs") then Some Langs
-    else if bytes_eq name (codes "list-versions") then Some Versions
-    else if bytes_eq name (codes "list-defaults") then Some Defaults
-    else if bytes_eq name (codes "list-rules") then Some Rules
-    else if bytes_eq name (codes "list-redirects") then Some Redirects
-    else if bytes_eq name (codes "list-passes") then Some Passes
-    else None
+-- the order to list this
+abbrev pub listing : ListWord → Order
+listing word = Desk (desk.List word)
 
 -- `NAME HOST`, for a word that lists this
 abbrev pub list_in : ProjectList → List Row → Option Order
-list_in list rows = with_word (codes "host") rows (λ host. Some (order.List (OfProject host list)))
+list_in list rows = with_word (codes "host") rows (λ host. Some (listing (OfProject host list)))
 
 -- `list-pages HOST SLUG LANG`
 abbrev pub list_pages_in : List Row → Option Order
 list_pages_in rows =
-    with_word (codes "host") rows (λ host.
     with_word (codes "slug") rows (λ slug.
-    with_word (codes "lang") rows (λ lang. Some (order.List (OfProject host (Pages slug lang))))))
+    with_word (codes "lang") rows (λ lang. list_in (Pages slug lang) rows))
 
 -- `list-seen HOST [--pass PASS] [--now SECONDS]`
 abbrev pub list_seen_in : List Row → Option Order
 list_seen_in rows =
     with_word (codes "host") rows (λ host.
-    option_map (λ moment. order.List (Seen host (first_of (codes "pass") rows) moment))
+    option_map (λ moment. listing (Seen host (first_of (codes "pass") rows) moment))
     (moment_in (codes "now") rows))
-
--- the list, where the word lists one, and else the command of this name
-abbrev pub list_or_command : Option ProjectList → Text → List Row → Option Order
-list_or_command (Some list) name rows = list_in list rows
-list_or_command None name rows = option_map Act (command_in name rows)
 
 -- what a line of this name orders
 abbrev pub order_in : Text → List Row → Option Order
 order_in name rows =
     if bytes_eq name (codes "get") then get_in rows
     else if bytes_eq name (codes "import") then import_in rows
-    else if bytes_eq name (codes "script") then Some Script
-    else if bytes_eq name (codes "answer") then Some Answer
+    else if bytes_eq name (codes "list-projects") then Some (listing Projects)
+    else if bytes_eq name (codes "list-langs") then list_in Langs rows
+    else if bytes_eq name (codes "list-versions") then list_in Versions rows
+    else if bytes_eq name (codes "list-defaults") then list_in Defaults rows
+    else if bytes_eq name (codes "list-rules") then list_in Rules rows
+    else if bytes_eq name (codes "list-redirects") then list_in Redirects rows
+    else if bytes_eq name (codes "list-passes") then list_in Passes rows
+    else if bytes_eq name (codes "list-pages") then list_pages_in rows
+    else if bytes_eq name (codes "list-seen") then list_seen_in rows
+    else if bytes_eq name (codes "script") then Some (Program Script)
+    else if bytes_eq name (codes "answer") then Some (Program Answer)
     else if bytes_eq name (codes "init") then init_in rows
     else if bytes_eq name (codes "migrate") then migrate_in rows
     else if bytes_eq name (codes "serve") then serve_in rows
-    else if bytes_eq name (codes "list-projects") then Some (order.List Projects)
-    else if bytes_eq name (codes "list-pages") then list_pages_in rows
-    else if bytes_eq name (codes "list-seen") then list_seen_in rows
-    else list_or_command (list_named name) name rows
+    else command_in name rows
 
 -- the line of this order, over the store in this file
 abbrev pub as_line : Option Text → Order → Line
@@ -449,17 +435,17 @@ OrdersLine words order = (line_in words ≡ Some (as_line None order))
 -- `NAME HOST SLUG` orders this change, where the words that the caller chooses are plain
 abbrev pub OrdersOnVersion : Text → (Text → CommandChange) → Type 0
 OrdersOnVersion name change = (host slug : Text) → ArePlain (host ∷ slug ∷ [])
-    → OrdersLine (name ∷ host ∷ slug ∷ []) (Act (asking host (change slug)))
+    → OrdersLine (name ∷ host ∷ slug ∷ []) (ordering host (change slug))
 
 -- `NAME HOST PASS` orders this change, where the words that the caller chooses are plain
 abbrev pub OrdersOnPass : Text → (Text → CommandChange) → Type 0
 OrdersOnPass name change = (host pass : Text) → ArePlain (host ∷ pass ∷ [])
-    → OrdersLine (name ∷ host ∷ pass ∷ []) (Act (asking host (change pass)))
+    → OrdersLine (name ∷ host ∷ pass ∷ []) (ordering host (change pass))
 
 -- `NAME HOST PASS SLUG` orders this change, where the words that the caller chooses are plain
 abbrev pub OrdersOnGrant : Text → (Text → Text → CommandChange) → Type 0
 OrdersOnGrant name change = (host pass slug : Text) → ArePlain (host ∷ pass ∷ slug ∷ [])
-    → OrdersLine (name ∷ host ∷ pass ∷ slug ∷ []) (Act (asking host (change pass slug)))
+    → OrdersLine (name ∷ host ∷ pass ∷ slug ∷ []) (ordering host (change pass slug))
 
 -- `add-redirect HOST PLACE KIND STATUS FROM TO ..` orders a redirect of this kind, where the words
 -- that the caller chooses are plain, and PLACE and STATUS are digits of these numbers
@@ -470,7 +456,7 @@ OrdersRedirectBy more force word kind =
     → place_of place_word ≡ Some place → redirect_status_of status_word ≡ Some status
     → OrdersLine (codes "add-redirect" ∷ host ∷ place_word ∷ word ∷ status_word ∷ source ∷ target
     ∷ more)
-    (Act (asking host (AddRedirect place (redirect_of kind status source target force))))
+    (ordering host (AddRedirect place (redirect_of kind status source target force)))
 
 -- these words without `--force` order a redirect without force
 abbrev pub OrdersRedirect : Text → RedirectKind → Type 0
@@ -488,7 +474,7 @@ OrdersRuleOf kind_word kind action_word action =
     → place_of place_word ≡ Some place
     → OrdersLine (codes "add-rule" ∷ host ∷ place_word ∷ kind_word ∷ pattern_text pattern
     ∷ action_word ∷ [])
-    (Act (asking host (AddRule place (rule_of kind pattern action))))
+    (ordering host (AddRule place (rule_of kind pattern action)))
 
 -- `add-rule` with this word orders this action, for branches and for tags
 abbrev pub OrdersRule : Text → Action → Type 0
@@ -498,7 +484,7 @@ OrdersRule word action =
 -- `NAME HOST` lists this, where HOST is plain
 abbrev pub OrdersList : Text → ProjectList → Type 0
 OrdersList name list = (host : Text) → is_plain_word host ≡ true
-    → OrdersLine (name ∷ host ∷ []) (order.List (OfProject host list))
+    → OrdersLine (name ∷ host ∷ []) (listing (OfProject host list))
 
 -- `serve --store FILE --count N` and these words serve N connections at this port over the store in
 -- FILE, where FILE and N are plain, and N is digits of this number; the server waits so many seconds for FILE
@@ -506,7 +492,7 @@ abbrev pub ServesWaiting : List Text → ℕ → Bool → ℕ → Type 0
 ServesWaiting more port log wait = (file count_word : Text) (count : ℕ) → ArePlain (file ∷ count_word ∷ [])
     → count_of count_word ≡ Some count
     → line_in (codes "serve" ∷ codes "--store" ∷ file ∷ codes "--count" ∷ count_word ∷ more)
-    ≡ Some (as_line (Some file) (Serve count port log wait))
+    ≡ Some (as_line (Some file) (Program (Serve count port log wait)))
 
 -- the same of a server that waits as long as one usually does
 abbrev pub ServesAt : List Text → ℕ → Bool → Type 0

@@ -21,32 +21,33 @@ ghost use Rattle.dh_listings.specs.declared.words.ListWord.TheVariants.{Projects
 ghost use Rattle.dh_listings.specs.declared.words.ProjectList.TheVariants as lists;
 ghost use Rattle.dh_word_tables.specs.Words.{is_plain_word, ArePlain, has_command};
 ghost use Rattle.dh_lines.specs.App.{docs_app};
-ghost use Rattle.dh_lines.specs.Lines.{line_in, asking, OrdersLine, OrdersOnVersion, OrdersOnPass};
+ghost use Rattle.dh_lines.specs.Lines.{line_in, listing, ordering, OrdersLine, OrdersOnVersion, OrdersOnPass};
 ghost use Rattle.dh_lines.specs.Lines.{OrdersOnGrant, OrdersRedirect, OrdersForced, OrdersRule};
 ghost use Rattle.dh_lines.specs.Lines.{OrdersList};
 ghost use Rattle.dh_lines.specs.Lines.{place_of, moment_of, as_line, ServesAt, ServesAtPort, WaitsAsTold};
-ghost use Rattle.dh_lines.specs.declared.lines.Order.TheVariants.{Act, Get, Import, Init};
-ghost use Rattle.dh_lines.specs.declared.lines.Order.TheVariants.{Migrate, Script, Answer};
-ghost use Rattle.dh_lines.specs.declared.lines.Order.TheVariants as order;
+ghost use Rattle.dh_lines.specs.declared.lines.Order.TheVariants.{Desk, File, Program};
+ghost use Rattle.dh_lines.specs.declared.lines.DeskOrder.TheVariants.{Get, Import};
+ghost use Rattle.dh_lines.specs.declared.lines.FileOrder.TheVariants.{Init, Migrate};
+ghost use Rattle.dh_lines.specs.declared.lines.ProgramOrder.TheVariants.{Script, Answer};
 
 /// The lines on projects and pushes.
 pub fn project_lines()
     ensures new_public { (host lang branch wkey : Text)
         → ArePlain (host ∷ lang ∷ branch ∷ wkey ∷ [])
         → OrdersLine (codes "new-project" ∷ host ∷ lang ∷ branch ∷ codes "public" ∷ wkey ∷ [])
-        (Act (asking host (NewProject lang branch false wkey))) }
+        (ordering host (NewProject lang branch false wkey)) }
     ensures new_private { (host lang branch wkey : Text)
         → ArePlain (host ∷ lang ∷ branch ∷ wkey ∷ [])
         → OrdersLine (codes "new-project" ∷ host ∷ lang ∷ branch ∷ codes "private" ∷ wkey ∷ [])
-        (Act (asking host (NewProject lang branch true wkey))) }
+        (ordering host (NewProject lang branch true wkey)) }
     ensures add_lang { (host lang : Text) → ArePlain (host ∷ lang ∷ [])
-        → OrdersLine (codes "add-lang" ∷ host ∷ lang ∷ []) (Act (asking host (AddLang lang))) }
+        → OrdersLine (codes "add-lang" ∷ host ∷ lang ∷ []) (ordering host (AddLang lang)) }
     ensures push_branch { (host wkey key name : Text) → ArePlain (host ∷ wkey ∷ key ∷ name ∷ [])
         → OrdersLine (codes "push" ∷ host ∷ wkey ∷ key ∷ codes "branch" ∷ name ∷ [])
-        (Act (asking host (Push wkey key Branch name))) }
+        (ordering host (Push wkey key Branch name)) }
     ensures push_tag { (host wkey key name : Text) → ArePlain (host ∷ wkey ∷ key ∷ name ∷ [])
         → OrdersLine (codes "push" ∷ host ∷ wkey ∷ key ∷ codes "tag" ∷ name ∷ [])
-        (Act (asking host (Push wkey key Tag name))) }
+        (ordering host (Push wkey key Tag name)) }
 {}
 
 /// The lines that upload a page, whose body is the last word before `--replace`.
@@ -54,20 +55,20 @@ pub fn upload_lines()
     ensures upload { (host wkey key slug lang path media body : Text)
         → ArePlain (host ∷ wkey ∷ key ∷ slug ∷ lang ∷ path ∷ media ∷ body ∷ [])
         → OrdersLine (codes "upload" ∷ host ∷ wkey ∷ key ∷ slug ∷ lang ∷ path ∷ media ∷ body ∷ [])
-        (Act (asking host (Upload wkey key slug lang false
-        (record { path = path; media = media; body = body } ∷ [])))) }
+        (ordering host (Upload wkey key slug lang false
+        (record { path = path; media = media; body = body } ∷ []))) }
     ensures replace { (host wkey key slug lang path media body : Text)
         → ArePlain (host ∷ wkey ∷ key ∷ slug ∷ lang ∷ path ∷ media ∷ body ∷ [])
         → OrdersLine (codes "upload" ∷ host ∷ wkey ∷ key ∷ slug ∷ lang ∷ path ∷ media ∷ body
         ∷ codes "--replace" ∷ [])
-        (Act (asking host (Upload wkey key slug lang true
-        (record { path = path; media = media; body = body } ∷ [])))) }
+        (ordering host (Upload wkey key slug lang true
+        (record { path = path; media = media; body = body } ∷ []))) }
     ensures replace_first { (host wkey key slug lang path media body : Text)
         → ArePlain (host ∷ wkey ∷ key ∷ slug ∷ lang ∷ path ∷ media ∷ body ∷ [])
         → OrdersLine (codes "upload" ∷ codes "--replace" ∷ host ∷ wkey ∷ key ∷ slug ∷ lang ∷ path
         ∷ media ∷ body ∷ [])
-        (Act (asking host (Upload wkey key slug lang true
-        (record { path = path; media = media; body = body } ∷ [])))) }
+        (ordering host (Upload wkey key slug lang true
+        (record { path = path; media = media; body = body } ∷ []))) }
 {}
 
 /// The lines on one version.
@@ -88,7 +89,7 @@ pub fn pass_lines()
     ensures add_until { (host pass until : Text) (moment : ℕ) → ArePlain (host ∷ pass ∷ until ∷ [])
         → moment_of until ≡ Some moment
         → OrdersLine (codes "add-pass" ∷ host ∷ pass ∷ codes "--until" ∷ until ∷ [])
-        (Act (asking host (AddPass pass (Some moment)))) }
+        (ordering host (AddPass pass (Some moment))) }
     ensures drop_pass { OrdersOnPass (codes "drop-pass") DropPass }
     ensures grant { OrdersOnGrant (codes "grant") Grant }
     ensures revoke { OrdersOnGrant (codes "revoke") Revoke }
@@ -107,7 +108,7 @@ pub fn redirect_lines()
     ensures drop_redirect { (host place_word : Text) (place : ℕ) → ArePlain (host ∷ place_word ∷ [])
         → place_of place_word ≡ Some place
         → OrdersLine (codes "drop-redirect" ∷ host ∷ place_word ∷ [])
-        (Act (asking host (DropRedirect place))) }
+        (ordering host (DropRedirect place)) }
 {}
 
 /// The lines on automation rules: for branches and for tags, with each pattern, as it is written.
@@ -120,40 +121,40 @@ pub fn rule_lines()
     ensures drop_rule { (host place_word : Text) (place : ℕ) → ArePlain (host ∷ place_word ∷ [])
         → place_of place_word ≡ Some place
         → OrdersLine (codes "drop-rule" ∷ host ∷ place_word ∷ [])
-        (Act (asking host (DropRule place))) }
+        (ordering host (DropRule place)) }
 {}
 
 /// The lines that read: without a pass, and with a pass behind or before the other words; with and without the moment of the
 /// read.
 pub fn get_lines()
     ensures get { (host target : Text) → ArePlain (host ∷ target ∷ [])
-        → OrdersLine (codes "get" ∷ host ∷ target ∷ []) (Get host target None None) }
+        → OrdersLine (codes "get" ∷ host ∷ target ∷ []) (Desk (Get host target None None)) }
     ensures pass { (host target pass : Text) → ArePlain (host ∷ target ∷ pass ∷ [])
         → OrdersLine (codes "get" ∷ host ∷ target ∷ codes "--pass" ∷ pass ∷ [])
-        (Get host target (Some pass) None) }
+        (Desk (Get host target (Some pass) None)) }
     ensures pass_first { (pass host target : Text) → ArePlain (pass ∷ host ∷ target ∷ [])
         → OrdersLine (codes "get" ∷ codes "--pass" ∷ pass ∷ host ∷ target ∷ [])
-        (Get host target (Some pass) None) }
+        (Desk (Get host target (Some pass) None)) }
     ensures moment { (host target now : Text) (moment : ℕ) → ArePlain (host ∷ target ∷ now ∷ [])
         → moment_of now ≡ Some moment
         → OrdersLine (codes "get" ∷ host ∷ target ∷ codes "--now" ∷ now ∷ [])
-        (Get host target None (Some moment)) }
+        (Desk (Get host target None (Some moment))) }
     ensures both { (host target pass now : Text) (moment : ℕ)
         → ArePlain (host ∷ target ∷ pass ∷ now ∷ []) → moment_of now ≡ Some moment
         → OrdersLine
         (codes "get" ∷ host ∷ target ∷ codes "--pass" ∷ pass ∷ codes "--now" ∷ now ∷ [])
-        (Get host target (Some pass) (Some moment)) }
+        (Desk (Get host target (Some pass) (Some moment))) }
 {}
 
 /// The line that imports a list.
 pub fn import_lines()
     ensures { (host list : Text) → ArePlain (host ∷ list ∷ [])
-        → OrdersLine (codes "import" ∷ host ∷ list ∷ []) (Import host list) }
+        → OrdersLine (codes "import" ∷ host ∷ list ∷ []) (Desk (Import host list)) }
 {}
 
 /// The lines that list the projects, and what one of them has.
 pub fn list_lines()
-    ensures projects { OrdersLine (codes "list-projects" ∷ []) (order.List Projects) }
+    ensures projects { OrdersLine (codes "list-projects" ∷ []) (listing Projects) }
     ensures langs { OrdersList (codes "list-langs") lists.Langs }
     ensures versions { OrdersList (codes "list-versions") lists.Versions }
     ensures defaults { OrdersList (codes "list-defaults") lists.Defaults }
@@ -162,44 +163,44 @@ pub fn list_lines()
     ensures passes { OrdersList (codes "list-passes") lists.Passes }
     ensures pages { (host slug lang : Text) → ArePlain (host ∷ slug ∷ lang ∷ [])
         → OrdersLine (codes "list-pages" ∷ host ∷ slug ∷ lang ∷ [])
-        (order.List (OfProject host (lists.Pages slug lang))) }
+        (listing (OfProject host (lists.Pages slug lang))) }
 {}
 
 /// The lines that list what a caller sees: without a pass, and with a pass behind or before the host; with and without the moment.
 pub fn seen_lines()
     ensures seen { (host : Text) → ArePlain (host ∷ [])
-        → OrdersLine (codes "list-seen" ∷ host ∷ []) (order.List (Seen host None None)) }
+        → OrdersLine (codes "list-seen" ∷ host ∷ []) (listing (Seen host None None)) }
     ensures pass { (host pass : Text) → ArePlain (host ∷ pass ∷ [])
         → OrdersLine (codes "list-seen" ∷ host ∷ codes "--pass" ∷ pass ∷ [])
-        (order.List (Seen host (Some pass) None)) }
+        (listing (Seen host (Some pass) None)) }
     ensures pass_first { (pass host : Text) → ArePlain (pass ∷ host ∷ [])
         → OrdersLine (codes "list-seen" ∷ codes "--pass" ∷ pass ∷ host ∷ [])
-        (order.List (Seen host (Some pass) None)) }
+        (listing (Seen host (Some pass) None)) }
     ensures moment { (host now : Text) (moment : ℕ) → ArePlain (host ∷ now ∷ [])
         → moment_of now ≡ Some moment
         → OrdersLine (codes "list-seen" ∷ host ∷ codes "--now" ∷ now ∷ [])
-        (order.List (Seen host None (Some moment))) }
+        (listing (Seen host None (Some moment))) }
     ensures both { (host pass now : Text) (moment : ℕ) → ArePlain (host ∷ pass ∷ now ∷ [])
         → moment_of now ≡ Some moment
         → OrdersLine
         (codes "list-seen" ∷ host ∷ codes "--pass" ∷ pass ∷ codes "--now" ∷ now ∷ [])
-        (order.List (Seen host (Some pass) (Some moment))) }
+        (listing (Seen host (Some pass) (Some moment))) }
 {}
 
 /// What the program itself does with its input.
 pub fn program_lines()
-    ensures script { OrdersLine (codes "script" ∷ []) Script }
-    ensures answer { OrdersLine (codes "answer" ∷ []) Answer }
+    ensures script { OrdersLine (codes "script" ∷ []) (Program Script) }
+    ensures answer { OrdersLine (codes "answer" ∷ []) (Program Answer) }
 {}
 
 /// The words that make a store, and the words that migrate one; both name no other store.
 pub fn init_lines()
     ensures init { (file : Text) → is_plain_word file ≡ true
-        → line_in (codes "init" ∷ file ∷ []) ≡ Some (as_line None (Init file)) }
+        → line_in (codes "init" ∷ file ∷ []) ≡ Some (as_line None (File (Init file))) }
     ensures other { (file other : Text) → ArePlain (file ∷ other ∷ [])
         → line_in (codes "init" ∷ file ∷ codes "--store" ∷ other ∷ []) ≡ None }
     ensures migrate { (file : Text) → is_plain_word file ≡ true
-        → line_in (codes "migrate" ∷ file ∷ []) ≡ Some (as_line None (Migrate file)) }
+        → line_in (codes "migrate" ∷ file ∷ []) ≡ Some (as_line None (File (Migrate file))) }
     ensures migrate_other { (file other : Text) → ArePlain (file ∷ other ∷ [])
         → line_in (codes "migrate" ∷ file ∷ codes "--store" ∷ other ∷ []) ≡ None }
 {}

@@ -10,4 +10,6 @@ pub use laws::{
     get_lines, import_lines, init_lines, list_lines, pass_lines, program_lines, project_lines,
     redirect_lines, rule_lines, seen_lines, serve_lines, stray_lines, upload_lines, version_lines,
 };
-pub use lines::{Line, LineFault, Order, line_by, line_of, reads};
+pub use lines::{
+    DeskOrder, FileOrder, Line, LineFault, Order, ProgramOrder, line_by, line_of, reads,
+};

@@ -16,9 +16,17 @@ use thiserror::Error;
 /// What a line orders.
 #[derive(Drop)]
 pub enum Order {
-    /// A command of the desk.
+    Desk(DeskOrder),
+    File(FileOrder),
+    Program(ProgramOrder),
+}
+
+/// What is done over a desk, and told in one line.
+#[derive(Drop)]
+pub enum DeskOrder {
+    /// A command.
     Act(Command),
-    /// A read of the desk.
+    /// A read.
     Get {
         /// The host of the read, whatever host the target gives.
         host: Text,
@@ -36,14 +44,20 @@ pub enum Order {
     },
     /// Lists what the records hold.
     List(ListWord),
-    /// Makes a store in a file.
-    Init {
-        file: Text,
-    },
-    /// Brings a store in a file to the schema of this program.
-    Migrate {
-        file: Text,
-    },
+}
+
+/// What is done to a file.
+#[derive(Drop)]
+pub enum FileOrder {
+    /// Makes a store in it.
+    Init { file: Text },
+    /// Brings the store in it to the schema of this program.
+    Migrate { file: Text },
+}
+
+/// What the program does with its input, or at a port.
+#[derive(Drop)]
+pub enum ProgramOrder {
     /// Runs the lines of standard input.
     Script,
     /// Answers the request of standard input.
@@ -97,15 +111,14 @@ ghost use Rattle.dh_lines.specs.App.{docs_app};
 ghost use Rattle.dh_lines.specs.Lines.{one_page as pages_of};
 ghost use Rattle.dh_lines.specs.Lines.{is_flag_given, privacy_word, kind_of, new_project_in, add_lang_in};
 ghost use Rattle.dh_lines.specs.Lines.{push_in, upload_in, change_on, version_change, add_pass_in};
-ghost use Rattle.dh_lines.specs.Lines.{drop_pass_in, grant_in, revoke_in, access_in, change_in};
+ghost use Rattle.dh_lines.specs.Lines.{drop_pass_in, grant_in, revoke_in, change_in};
 ghost use Rattle.dh_lines.specs.Lines.{place_in, moment_in, import_in, migrate_in};
 ghost use Rattle.dh_lines.specs.Lines.{reads as spec_reads};
 ghost use Rattle.dh_lines.specs.Lines.{text_meant as meant_by, redirect_in, add_redirect_in};
-ghost use Rattle.dh_lines.specs.Lines.{drop_redirect_in, redirect_change_in, pattern_of, action_of};
-ghost use Rattle.dh_lines.specs.Lines.{rule_in, add_rule_in, drop_rule_in, rule_change_in};
+ghost use Rattle.dh_lines.specs.Lines.{drop_redirect_in, pattern_of, action_of};
+ghost use Rattle.dh_lines.specs.Lines.{rule_in, add_rule_in, drop_rule_in};
 ghost use Rattle.dh_lines.specs.Lines.{command_in, get_in, init_in, count_in, port_in, serve_in, wait_in};
-ghost use Rattle.dh_lines.specs.Lines.{list_in, list_named, list_or_command as spec_list_or_command};
-ghost use Rattle.dh_lines.specs.Lines.{list_pages_in, list_seen_in};
+ghost use Rattle.dh_lines.specs.Lines.{list_in, list_pages_in, list_seen_in};
 ghost use Rattle.dh_lines.specs.Lines.{order_in, named_line, line_with, line_in, ReadsOrUsage, MatchesWords};
 
 fn value<'a>(matches: &ArgMatches<'a>, id: &str) -> Option<&'a str>
@@ -473,12 +486,12 @@ fn get(alloc: Global, matches: &ArgMatches<'_>) -> Result<Order, LineFault>
     let target = word(alloc, matches, "target")?;
     let pass = option_value(alloc, matches, "pass")?;
     let moment = moment(matches, "now")?;
-    Ok(Order::Get {
+    Ok(Order::Desk(DeskOrder::Get {
         host,
         target,
         pass,
         moment,
-    })
+    }))
 }
 
 fn import(alloc: Global, matches: &ArgMatches<'_>) -> Result<Order, LineFault>
@@ -486,21 +499,21 @@ fn import(alloc: Global, matches: &ArgMatches<'_>) -> Result<Order, LineFault>
 {
     let host = word(alloc, matches, "host")?;
     let list = word(alloc, matches, "list")?;
-    Ok(Order::Import { host, list })
+    Ok(Order::Desk(DeskOrder::Import { host, list }))
 }
 
 fn init(alloc: Global, matches: &ArgMatches<'_>) -> Result<Order, LineFault>
     ensures { ReadsOrUsage (init_in (rows_of (found_of matches.now))) result }
 {
     let file = word(alloc, matches, "file")?;
-    Ok(Order::Init { file })
+    Ok(Order::File(FileOrder::Init { file }))
 }
 
 fn migrate(alloc: Global, matches: &ArgMatches<'_>) -> Result<Order, LineFault>
     ensures { ReadsOrUsage (migrate_in (rows_of (found_of matches.now))) result }
 {
     let file = word(alloc, matches, "file")?;
-    Ok(Order::Migrate { file })
+    Ok(Order::File(FileOrder::Migrate { file }))
 }
 
 fn count(matches: &ArgMatches<'_>) -> Option<u32>
@@ -545,58 +558,12 @@ fn serve(matches: &ArgMatches<'_>) -> Result<Order, LineFault>
         return Err(LineFault::Usage);
     };
     let log = has_flag(matches, "log");
-    Ok(Order::Serve {
+    Ok(Order::Program(ProgramOrder::Serve {
         count,
         port,
         log,
         wait,
-    })
-}
-
-/// A line on rules, or on one version.
-#[tactic(auto, unfolding(crate::specs::Lines::rule_change_in))]
-fn rule_line(
-    alloc: Global,
-    name: &str,
-    matches: &ArgMatches<'_>,
-) -> Result<CommandChange, LineFault>
-    ensures { ReadsOrUsage (rule_change_in name.now (rows_of (found_of matches.now))) result }
-{
-    match name {
-        "add-rule" => add_rule(alloc, matches),
-        "drop-rule" => drop_rule(alloc, matches),
-        _ => version(alloc, name, matches),
-    }
-}
-
-/// A line on redirects, on rules, or on one version.
-#[tactic(auto, unfolding(crate::specs::Lines::redirect_change_in))]
-fn redirect_line(
-    alloc: Global,
-    name: &str,
-    matches: &ArgMatches<'_>,
-) -> Result<CommandChange, LineFault>
-    ensures { ReadsOrUsage (redirect_change_in name.now (rows_of (found_of matches.now))) result }
-{
-    match name {
-        "add-redirect" => add_redirect(alloc, matches),
-        "drop-redirect" => drop_redirect(alloc, matches),
-        _ => rule_line(alloc, name, matches),
-    }
-}
-
-/// A line on a pass, on redirects, on rules, or on one version.
-#[tactic(auto, unfolding(crate::specs::Lines::access_in))]
-fn access(alloc: Global, name: &str, matches: &ArgMatches<'_>) -> Result<CommandChange, LineFault>
-    ensures { ReadsOrUsage (access_in name.now (rows_of (found_of matches.now))) result }
-{
-    match name {
-        "add-pass" => add_pass(alloc, matches),
-        "drop-pass" => drop_pass(alloc, matches),
-        "grant" => grant(alloc, matches),
-        "revoke" => revoke(alloc, matches),
-        _ => redirect_line(alloc, name, matches),
-    }
+    }))
 }
 
 /// The change of a line that is a command.
@@ -609,49 +576,40 @@ fn change(alloc: Global, name: &str, matches: &ArgMatches<'_>) -> Result<Command
         "add-lang" => add_lang(alloc, matches),
         "push" => push(alloc, matches),
         "upload" => upload(alloc, matches),
-        _ => access(alloc, name, matches),
+        "add-pass" => add_pass(alloc, matches),
+        "drop-pass" => drop_pass(alloc, matches),
+        "grant" => grant(alloc, matches),
+        "revoke" => revoke(alloc, matches),
+        "add-redirect" => add_redirect(alloc, matches),
+        "drop-redirect" => drop_redirect(alloc, matches),
+        "add-rule" => add_rule(alloc, matches),
+        "drop-rule" => drop_rule(alloc, matches),
+        _ => version(alloc, name, matches),
     }
 }
 
 /// A line that is a command: each names its host.
-fn command(alloc: Global, name: &str, matches: &ArgMatches<'_>) -> Result<Command, LineFault>
+fn command(alloc: Global, name: &str, matches: &ArgMatches<'_>) -> Result<Order, LineFault>
     ensures { ReadsOrUsage (command_in name.now (rows_of (found_of matches.now))) result }
 {
     let host = word(alloc, matches, "host")?;
     let change = change(alloc, name, matches)?;
-    Ok(Command { host, change })
-}
-
-/// The list of a project that a word of this name asks for.
-fn project_list(name: &str) -> Option<ProjectList>
-    ensures { result ≡ list_named name.now }
-{
-    match name {
-        "list-langs" => Some(ProjectList::Langs),
-        "list-versions" => Some(ProjectList::Versions),
-        "list-defaults" => Some(ProjectList::Defaults),
-        "list-rules" => Some(ProjectList::Rules),
-        "list-redirects" => Some(ProjectList::Redirects),
-        "list-passes" => Some(ProjectList::Passes),
-        _ => None,
-    }
+    Ok(Order::Desk(DeskOrder::Act(Command { host, change })))
 }
 
 fn list(alloc: Global, list: ProjectList, matches: &ArgMatches<'_>) -> Result<Order, LineFault>
     ensures { ReadsOrUsage (list_in list (rows_of (found_of matches.now))) result }
 {
     let host = word(alloc, matches, "host")?;
-    Ok(Order::List(ListWord::OfProject { host, list }))
+    Ok(Order::Desk(DeskOrder::List(ListWord::OfProject { host, list })))
 }
 
 fn list_pages(alloc: Global, matches: &ArgMatches<'_>) -> Result<Order, LineFault>
     ensures { ReadsOrUsage (list_pages_in (rows_of (found_of matches.now))) result }
 {
-    let host = word(alloc, matches, "host")?;
     let slug = word(alloc, matches, "slug")?;
     let lang = word(alloc, matches, "lang")?;
-    let list = ProjectList::Pages { slug, lang };
-    Ok(Order::List(ListWord::OfProject { host, list }))
+    list(alloc, ProjectList::Pages { slug, lang }, matches)
 }
 
 fn list_seen(alloc: Global, matches: &ArgMatches<'_>) -> Result<Order, LineFault>
@@ -660,40 +618,35 @@ fn list_seen(alloc: Global, matches: &ArgMatches<'_>) -> Result<Order, LineFault
     let host = word(alloc, matches, "host")?;
     let shown = option_value(alloc, matches, "pass")?;
     let at = moment(matches, "now")?;
-    Ok(Order::List(ListWord::Seen {
+    Ok(Order::Desk(DeskOrder::List(ListWord::Seen {
         host,
         pass: shown,
         moment: at,
-    }))
+    })))
 }
 
-/// A line that lists what a project has, or a command.
-fn list_or_command(alloc: Global, name: &str, matches: &ArgMatches<'_>) -> Result<Order, LineFault>
-    ensures { ReadsOrUsage (spec_list_or_command (list_named name.now) name.now
-        (rows_of (found_of matches.now))) result }
-{
-    match project_list(name) {
-        Some(found) => list(alloc, found, matches),
-        None => Ok(Order::Act(command(alloc, name, matches)?)),
-    }
-}
-
-/// What a line of this name orders.
+/// What a line of this name orders: what stands behind the name of a form is read here, or in `change`.
 fn read_order(alloc: Global, name: &str, matches: &ArgMatches<'_>) -> Result<Order, LineFault>
     ensures { ReadsOrUsage (order_in name.now (rows_of (found_of matches.now))) result }
 {
     match name {
         "get" => get(alloc, matches),
         "import" => import(alloc, matches),
-        "script" => Ok(Order::Script),
-        "answer" => Ok(Order::Answer),
+        "list-projects" => Ok(Order::Desk(DeskOrder::List(ListWord::Projects))),
+        "list-langs" => list(alloc, ProjectList::Langs, matches),
+        "list-versions" => list(alloc, ProjectList::Versions, matches),
+        "list-defaults" => list(alloc, ProjectList::Defaults, matches),
+        "list-rules" => list(alloc, ProjectList::Rules, matches),
+        "list-redirects" => list(alloc, ProjectList::Redirects, matches),
+        "list-passes" => list(alloc, ProjectList::Passes, matches),
+        "list-pages" => list_pages(alloc, matches),
+        "list-seen" => list_seen(alloc, matches),
+        "script" => Ok(Order::Program(ProgramOrder::Script)),
+        "answer" => Ok(Order::Program(ProgramOrder::Answer)),
         "init" => init(alloc, matches),
         "migrate" => migrate(alloc, matches),
         "serve" => serve(matches),
-        "list-projects" => Ok(Order::List(ListWord::Projects)),
-        "list-pages" => list_pages(alloc, matches),
-        "list-seen" => list_seen(alloc, matches),
-        _ => list_or_command(alloc, name, matches),
+        _ => command(alloc, name, matches),
     }
 }
 

@@ -20,6 +20,7 @@ use Rattle.dh_records.proofs.KeyLemmas.{page_place}
 use Rattle.dh_records.proofs.RecordLemmas.{found_passes}
 use Rattle.dh_records.proofs.SeenLemmas.{get_project}
 use Rattle.dh_records.proofs.SlugOrder.{host_rises}
+use Rattle.dh_tables.specs.Sizes.{size_of_row}
 use Rattle.dh_view.specs.View.{row_of}
 use Rattle.dh_listings.specs.ListingTexts.{project_words, version_words, page_words, rule_words, redirect_words, pass_words, placed_rows, granted_slugs, main_language, rows_listed, project_rows, listed_text}
 use Rattle.dh_listings.specs.declared.words.ProjectList.{ProjectList}
@@ -124,12 +125,13 @@ module _ (l : Lists) (host : Text) (sound : AreSound l) where
       ap (map (λ e. version_words e.1)) (entries_of text_total exact_bytes _ (subst T (sym (host_rises host l.versions sound.order.versions)) tt))
       ∙ mapped (λ r. (r.version.slug, r.version)) (λ e. version_words e.1) _
 
-  pub pages_are : (slug lang : Text) → rows_listed p (Pages slug lang) ≡ map rows.of_page (filter (is_page_in host slug lang) l.pages)
+  pub pages_are : (slug lang : Text) → rows_listed p (Pages slug lang) ≡ map rows.of_size (map size_of_row (filter (is_page_in host slug lang) l.pages))
   unfolding project_of
   pages_are slug lang =
       ap (λ es. map (λ e. page_words e.0.1.1 e.1.media (length e.1.body)) (filter (λ e. lies_under slug (Some lang) e.0) es))
       (entries_of page_total page_exact _ (rising page_cmp coding.pages.key page_place (λ x. x.page) (λ x. bytes_eq x.host host) (pages_rise host) l.pages sound.order.pages))
       ∙ pages_under (λ x. x.page) (λ e. page_words e.0.1.1 e.1.media (length e.1.body)) host slug lang l.pages
+      ∙ sym (mapped size_of_row rows.of_size (filter (is_page_in host slug lang) l.pages))
 
   passes_in : entries p.passes ≡ map (λ x. (x.pass, x.until)) passes
   unfolding project_of

@@ -1,15 +1,16 @@
 //! What a list of all that a caller sees is made from.
 
-ghost use Rattle.dh_listings.specs.ListingTexts.{pages_in as spec_pages_in};
+ghost use Rattle.std.specs.Prelude.{map};
+ghost use Rattle.dh_listings.specs.ListingTexts.{pages_in};
 ghost use Rattle.dh_reply.specs.Lookup.{IsLook, AnswersAll, AnswersMaybe};
-ghost use Rattle.dh_view.specs.Stored.{stands_for as spec_stands_for};
+ghost use Rattle.dh_view.specs.Stored.{size_of_page, stands_for as spec_stands_for};
 
 use dh_paths::{Lang, Slug};
 use dh_ports::{Fault, Found};
 use dh_records::AliasName;
 use dh_redirects::Redirect;
 use dh_reply::Lookup;
-use dh_seen::StoredPage;
+use dh_tables::PageSize;
 use dh_view::View;
 use sqlite::Alter;
 use std::alloc::Global;
@@ -26,16 +27,16 @@ pub trait Inventory: Lookup {
         ensures asks { IsLook Self.meaning self.old self.new result }
         ensures value { AnswersAll Self.meaning self.old self.new result (λ p. p.redirects) };
 
-    /// The pages of a version in a language, by path; none where there is no project.
-    fn pages_in(
+    /// The sizes of the pages of a version in a language, by path; none where there is no project.
+    fn page_sizes_in(
         &mut self,
         alloc: Global,
         slug: &Slug,
         lang: &Lang,
-    ) -> Result<Vec<StoredPage>, Fault>
+    ) -> Result<Vec<PageSize>, Fault>
         ensures asks { IsLook Self.meaning self.old self.new result }
         ensures value { AnswersAll Self.meaning self.old self.new result
-            (spec_pages_in slug.now lang.now) };
+            (λ p. map size_of_page (pages_in slug.now lang.now p)) };
 }
 
 impl<'a, S: Alter> Inventory for View<'a, S> {
@@ -47,12 +48,12 @@ impl<'a, S: Alter> Inventory for View<'a, S> {
         self.seen_redirects(alloc)
     }
 
-    fn pages_in(
+    fn page_sizes_in(
         &mut self,
         alloc: Global,
         slug: &Slug,
         lang: &Lang,
-    ) -> Result<Vec<StoredPage>, Fault> {
-        self.seen_pages(alloc, slug, lang)
+    ) -> Result<Vec<PageSize>, Fault> {
+        self.seen_page_sizes(alloc, slug, lang)
     }
 }

@@ -73,7 +73,6 @@ fn list_passes<S: Alter>(tables: &mut Tables<S>, alloc: Global, host: &HostName)
     Ok(Some(passes_text(alloc, passes.as_slice(), grants.as_slice())?))
 }
 
-/// The pages are looked up with their bodies, which are let go with them.
 fn list_pages<S: Alter>(
     tables: &mut Tables<S>,
     alloc: Global,
@@ -84,7 +83,7 @@ fn list_pages<S: Alter>(
     ensures { LearnsInTurn S.Store tables.old tables.new result
         (ListsProject host.now (part.Pages slug.now lang.now)) }
 {
-    let rows = tables.pages_in(alloc, host, slug.as_str(), lang.as_str())?;
+    let rows = tables.page_sizes_in(alloc, host, slug.as_str(), lang.as_str())?;
     Ok(Some(records_text(alloc, rows.as_slice())?))
 }
 

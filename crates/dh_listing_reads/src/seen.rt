@@ -4,6 +4,7 @@ ghost use Rattle.std.specs.Prelude.{◌≡◌, ◌++◌, [], IfOk, IfSome, OnOk,
 ghost use Rattle.std.specs.Option.{option_map_or};
 ghost use Rattle.dh_listings.specs.ListingTexts as spec;
 ghost use Rattle.dh_listing_reads.specs.Inventory.{names_seen};
+ghost use Rattle.dh_listing_reads.specs.RecordRows.{of_seen_size};
 ghost use Rattle.dh_reply.specs.Lookup.{IsLook, AnswersFor, AnswersForProject};
 
 use crate::inventory::Inventory;
@@ -14,7 +15,7 @@ use dh_paths::{Lang, Slug, Text};
 use dh_ports::{Fault, Found};
 use dh_records::AliasName;
 use dh_redirects::Redirect;
-use dh_seen::StoredPage;
+use dh_tables::PageSize;
 use dh_versions::Version;
 use std::alloc::{AllocError, Global};
 
@@ -72,16 +73,19 @@ fn put_redirects(
     Ok(())
 }
 
+/// Puts the rows of the pages of a version in a language that have these sizes.
 fn put_page_rows(
     alloc: Global,
     rows: &mut Vec<Text>,
-    pages: &[StoredPage],
+    slug: &Slug,
+    lang: &Lang,
+    sizes: &[PageSize],
 ) -> Result<(), AllocError>
-    ensures { OnOk result
-        (rows.new.items ≡ rows.old.items ++ map spec.seen_page_words pages.now) }
+    ensures { OnOk result (rows.new.items
+        ≡ rows.old.items ++ map (of_seen_size slug.now lang.now) sizes.now) }
 {
-    for page in pages {
-        rows.push(seen_page_row(alloc, page)?)?;
+    for page in sizes {
+        rows.push(seen_page_row(alloc, slug, lang, &page.path, &page.media, page.size)?)?;
     }
     Ok(())
 }
@@ -153,7 +157,7 @@ fn first_rows<L: Inventory>(
     Ok(short_rows(alloc, langs, versions, &names, &redirects)?)
 }
 
-/// Puts the rows of the pages of a version in a language. Their bodies are let go with them.
+/// Puts the rows of the pages of a version in a language.
 fn put_pages_in<L: Inventory>(
     alloc: Global,
     lookup: &mut L,
@@ -166,8 +170,8 @@ fn put_pages_in<L: Inventory>(
         ++ map spec.seen_page_words (option_map_or (spec.pages_in slug.now lang.now)
         (L.meaning.content lookup.old) [])) }
 {
-    let pages = lookup.pages_in(alloc, slug, lang)?;
-    put_page_rows(alloc, rows, &pages)?;
+    let sizes = lookup.page_sizes_in(alloc, slug, lang)?;
+    put_page_rows(alloc, rows, slug, lang, sizes.as_slice())?;
     Ok(())
 }
 
@@ -189,7 +193,7 @@ fn put_version_pages<L: Inventory>(
     Ok(())
 }
 
-/// Puts the rows of the pages of some versions in some languages: those of one version in one language are held at once.
+/// Puts the rows of the pages of some versions in some languages.
 fn put_pages<L: Inventory>(
     alloc: Global,
     lookup: &mut L,

@@ -9,7 +9,7 @@ use dh_listings::{
     append_rule, append_version, listed_head,
 };
 use dh_paths::Text;
-use dh_tables::{DefaultRow, LangRow, PageRow, ProjectRow, RedirectRow, RuleRow, VersionRow};
+use dh_tables::{DefaultRow, LangRow, PageSize, ProjectRow, RedirectRow, RuleRow, VersionRow};
 use std::alloc::{AllocError, Global};
 
 /// A record that is a row of a list.
@@ -25,8 +25,15 @@ pub trait RowText {
 impl RowText for ProjectRow {
     ghost shown = { rows.of_project };
 
-    fn put(&self, _alloc: Global, out: &mut String) -> Result<(), AllocError> {
-        append_project(out, &self.host, &self.main, &self.branch, self.new_private)
+    fn put(&self, alloc: Global, out: &mut String) -> Result<(), AllocError> {
+        append_project(
+            out,
+            alloc,
+            &self.host,
+            &self.main,
+            &self.branch,
+            self.new_private,
+        )
     }
 }
 
@@ -49,17 +56,16 @@ impl RowText for DefaultRow {
 impl RowText for VersionRow {
     ghost shown = { λ r. spec.version_words r.version };
 
-    fn put(&self, _alloc: Global, out: &mut String) -> Result<(), AllocError> {
-        append_version(out, &self.version)
+    fn put(&self, alloc: Global, out: &mut String) -> Result<(), AllocError> {
+        append_version(out, alloc, &self.version)
     }
 }
 
-impl RowText for PageRow {
-    ghost shown = { rows.of_page };
+impl RowText for PageSize {
+    ghost shown = { rows.of_size };
 
-    fn put(&self, _alloc: Global, out: &mut String) -> Result<(), AllocError> {
-        let size = self.page.body.as_slice().len();
-        append_page(out, &self.path, &self.page.media, size)
+    fn put(&self, alloc: Global, out: &mut String) -> Result<(), AllocError> {
+        append_page(out, alloc, &self.path, &self.media, self.size)
     }
 }
 
@@ -74,8 +80,8 @@ impl RowText for RuleRow {
 impl RowText for RedirectRow {
     ghost shown = { λ r. spec.redirect_words r.place r.redirect };
 
-    fn put(&self, _alloc: Global, out: &mut String) -> Result<(), AllocError> {
-        append_redirect(out, self.place, &self.redirect)
+    fn put(&self, alloc: Global, out: &mut String) -> Result<(), AllocError> {
+        append_redirect(out, alloc, self.place, &self.redirect)
     }
 }
 

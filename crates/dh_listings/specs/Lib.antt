@@ -1,2 +1,3 @@
+pub mod Terminal
 pub mod ListingTexts
 pub mod Whole

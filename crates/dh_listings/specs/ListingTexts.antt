@@ -1,12 +1,9 @@
 -- What list words print of a world.
-use Rattle.std.specs.Prelude.{ℕ, ◌+◌, Bool, true, false, ◌&&◌, List, [], ◌∷◌, ◌++◌, length, map, filter, flat_map, codes, Option, Some, None, option_map, option_and_then, unwrap_or, slice_get, if◌then◌else◌}
+use Rattle.std.specs.Prelude.{ℕ, ◌+◌, Bool, true, false, ◌&&◌, List, [], ◌∷◌, ◌++◌, length, map, filter, flat_map, codes, Option, Some, None, option_map, option_and_then, unwrap_or, slice_get}
 use Rattle.std.specs.Fmt.{decimal}
-use Rattle.std.specs.List.{list_all}
 use Rattle.std.specs.Option.{option_map_or}
 use Rattle.std.specs.Str.{bytes_eq}
 use Rattle.std.specs.FinMap.{entries, get}
-use Rattle.dh_texts.specs.Texts.{is_no_control}
-use Rattle.dh_paths.specs.Escapes.{escaped}
 use Rattle.dh_versions.specs.declared.version.Kind.{Kind}
 use Rattle.dh_versions.specs.declared.version.Kind.TheVariants.{Branch, Tag}
 use Rattle.dh_versions.specs.declared.version.Version.{Version}
@@ -22,6 +19,7 @@ use Rattle.dh_seen.specs.declared.seen_project.StoredPage.{StoredPage}
 use Rattle.dh_world.specs.World.{Text, Project, World, lies_under}
 use Rattle.dh_world.specs.Reads.{host_named, caller_named}
 use Rattle.dh_world.specs.Seen as sight
+use Rattle.dh_listings.specs.Terminal.{row_word}
 use Rattle.dh_listings.specs.declared.words.ListWord.{ListWord}
 use Rattle.dh_listings.specs.declared.words.ListWord.TheVariants.{Projects, OfProject, Seen}
 use Rattle.dh_listings.specs.declared.words.ProjectList.{ProjectList}
@@ -61,7 +59,7 @@ redirect_word HtmlToClean = codes "html-to-clean"
 -- From or To, or the word for none
 abbrev pub text_word : Text → Text
 text_word [] = codes "none"
-text_word (b ∷ bs) = b ∷ bs
+text_word (b ∷ bs) = row_word (b ∷ bs)
 
 -- the last word of a redirect with force, or nothing
 abbrev pub force_end : Bool → Text
@@ -73,27 +71,23 @@ abbrev pub end_word : Option ℕ → Text
 end_word None = codes "none"
 end_word (Some end) = decimal end
 
--- a text as a word of a row: a text with a control byte, as a tab, stands behind `escaped:` with percent escapes, and any other
--- stands as it is
-abbrev pub row_word : Text → Text
-row_word text = if list_all is_no_control text then text else codes "escaped:" ++ escaped text
-
--- ---- rows: words with a tab between two
+-- ---- rows: words with a tab between two. What may be any text, a name, a path, a pattern, From or To, stands as `row_word`
+-- has it, and all else has letters, digits and marks of ASCII alone.
 
 -- `HOST LANG BRANCH public|private`, of the main language; the write key is left out
 unfoldable pub project_words : Text → Text → Text → Bool → Text
 project_words host main branch private =
-    host ++ 9 ∷ main ++ 9 ∷ branch ++ 9 ∷ private_word private
+    host ++ 9 ∷ main ++ 9 ∷ row_word branch ++ 9 ∷ private_word private
 
 -- `branch|tag REF SLUG active|inactive hidden|shown private|public`
 unfoldable pub version_words : Version → Text
 version_words v =
-    kind_word v.kind ++ 9 ∷ v.name ++ 9 ∷ v.slug ++ 9 ∷ active_word v.active
+    kind_word v.kind ++ 9 ∷ row_word v.name ++ 9 ∷ v.slug ++ 9 ∷ active_word v.active
     ++ 9 ∷ hidden_word v.hidden ++ 9 ∷ private_word v.private
 
 -- `PATH TYPE SIZE`, where the size is how many bytes the body has
 unfoldable pub page_words : Text → Text → ℕ → Text
-page_words path media size = path ++ 9 ∷ media ++ 9 ∷ decimal size
+page_words path media size = row_word path ++ 9 ∷ media ++ 9 ∷ decimal size
 
 -- `PLACE branch|tag PATTERN ACTION`
 unfoldable pub rule_words : ℕ → Rule → Text
@@ -124,7 +118,8 @@ seen_lang_words lang = codes "lang" ++ 9 ∷ lang
 -- `version branch|tag REF SLUG hidden|shown`
 unfoldable pub seen_version_words : Version → Text
 seen_version_words v =
-    codes "version" ++ 9 ∷ kind_word v.kind ++ 9 ∷ v.name ++ 9 ∷ v.slug ++ 9 ∷ hidden_word v.hidden
+    codes "version" ++ 9 ∷ kind_word v.kind ++ 9 ∷ row_word v.name ++ 9 ∷ v.slug
+    ++ 9 ∷ hidden_word v.hidden
 
 -- `NAME TO`: what `latest` or `stable` stands for, or what `/` leads to
 unfoldable pub lead_words : Text → Text → Text
@@ -136,11 +131,14 @@ seen_redirect_words r =
     codes "redirect" ++ 9 ∷ redirect_word r.kind ++ 9 ∷ decimal r.status ++ 9 ∷ text_word r.source
     ++ 9 ∷ text_word r.target ++ force_end r.force
 
--- `page SLUG LANG PATH TYPE SIZE`, where the size is how many bytes the body has
-unfoldable pub seen_page_words : StoredPage → Text
-seen_page_words s =
-    codes "page" ++ 9 ∷ s.slug ++ 9 ∷ s.lang ++ 9 ∷ s.path ++ 9 ∷ s.page.media
-    ++ 9 ∷ decimal (length s.page.body)
+-- `page SLUG LANG PATH TYPE SIZE`
+unfoldable pub sized_page_words : Text → Text → Text → Text → ℕ → Text
+sized_page_words slug lang path media size =
+    codes "page" ++ 9 ∷ slug ++ 9 ∷ lang ++ 9 ∷ row_word path ++ 9 ∷ media ++ 9 ∷ decimal size
+
+-- the same of a page, where the size is how many bytes the body has
+abbrev pub seen_page_words : StoredPage → Text
+seen_page_words s = sized_page_words s.slug s.lang s.path s.page.media (length s.page.body)
 
 -- ---- texts
 

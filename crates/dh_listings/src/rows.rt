@@ -3,10 +3,10 @@
 ghost use Rattle.std.specs.Prelude.{◌≡◌, ◌∷◌, ◌++◌, IfOk, OnOk, string_bytes};
 ghost use Rattle.dh_listings.specs.ListingTexts as spec;
 
-use dh_paths::{HostName, Lang, PagePath, RefName, Slug, Text, Token, all_no_control, encode_path};
+use crate::terminal::row_word;
+use dh_paths::{HostName, Lang, PagePath, RefName, Slug, Text, Token};
 use dh_redirects::{Redirect, RedirectKind};
 use dh_rules::{Action, Rule};
-use dh_seen::StoredPage;
 use dh_versions::{Kind, Version};
 use dh_world::PassEnd;
 use std::alloc::{AllocError, Global};
@@ -61,11 +61,14 @@ fn redirect_word(kind: RedirectKind) -> &'static str
     }
 }
 
-/// The text, or the word for none.
-fn text_word(text: &str) -> &str
-    ensures { result.now ≡ spec.text_word text.now }
+/// The word of a text, or the word for none.
+fn text_word(alloc: Global, text: &str) -> Result<String, AllocError>
+    ensures { IfOk result (λ word. string_bytes word ≡ spec.text_word text.now) }
 {
-    if text.is_empty() { "none" } else { text }
+    if text.is_empty() {
+        return String::from_str(alloc, "none");
+    }
+    row_word(alloc, text)
 }
 
 fn force_end(force: bool) -> &'static str
@@ -100,6 +103,7 @@ pub fn append_grant(out: &mut String, slug: &Slug) -> Result<(), AllocError>
 #[tactic(auto, unfolding(crate::specs::ListingTexts::project_words))]
 pub fn append_project(
     out: &mut String,
+    alloc: Global,
     host: &HostName,
     main: &Lang,
     branch: &RefName,
@@ -108,7 +112,9 @@ pub fn append_project(
     ensures { OnOk result (string_bytes out.new
         ≡ string_bytes out.old ++ 10 ∷ spec.project_words host.now main.now branch.now private) }
 {
-    let (host, main, branch) = (host.as_str(), main.as_str(), branch.as_str());
+    let (host, main) = (host.as_str(), main.as_str());
+    let branch = row_word(alloc, branch.as_str())?;
+    let branch = branch.as_str();
     let private = private_word(private);
     write!(out, "\n{host}\t{main}\t{branch}\t{private}")
 }
@@ -129,12 +135,13 @@ pub fn append_name(out: &mut String, name: &Slug) -> Result<(), AllocError>
 }
 
 #[tactic(auto, unfolding(crate::specs::ListingTexts::version_words))]
-pub fn append_version(out: &mut String, version: &Version) -> Result<(), AllocError>
+pub fn append_version(out: &mut String, alloc: Global, version: &Version) -> Result<(), AllocError>
     ensures { OnOk result (string_bytes out.new
         ≡ string_bytes out.old ++ 10 ∷ spec.version_words version.now) }
 {
     let kind = kind_word(version.kind);
-    let (name, slug) = (version.name.as_str(), version.slug.as_str());
+    let name = row_word(alloc, version.name.as_str())?;
+    let (name, slug) = (name.as_str(), version.slug.as_str());
     let active = active_word(version.active);
     let hidden = hidden_word(version.hidden);
     let private = private_word(version.private);
@@ -148,6 +155,7 @@ pub fn append_version(out: &mut String, version: &Version) -> Result<(), AllocEr
 #[tactic(auto, unfolding(crate::specs::ListingTexts::page_words))]
 pub fn append_page(
     out: &mut String,
+    alloc: Global,
     path: &PagePath,
     media: &Text,
     size: usize,
@@ -155,21 +163,9 @@ pub fn append_page(
     ensures { OnOk result (string_bytes out.new
         ≡ string_bytes out.old ++ 10 ∷ spec.page_words path.now media.now size) }
 {
+    let path = row_word(alloc, path.as_str())?;
     let (path, media) = (path.as_str(), media.as_str());
     write!(out, "\n{path}\t{media}\t{size}")
-}
-
-/// A text as a word of a row: a text with a control byte, which may be a tab or an LF, is written with percent escapes
-/// behind `escaped:`.
-fn row_word(alloc: Global, text: String) -> Result<String, AllocError>
-    ensures { IfOk result (λ word. string_bytes word ≡ spec.row_word (string_bytes text)) }
-{
-    if all_no_control(text.as_bytes()) {
-        return Ok(text);
-    }
-    let escaped = encode_path(alloc, text.as_str())?;
-    let escaped = escaped.as_str();
-    format!(in alloc; "escaped:{escaped}")
 }
 
 /// Appends a rule with its place.
@@ -184,21 +180,28 @@ pub fn append_rule(
         ≡ string_bytes out.old ++ 10 ∷ spec.rule_words place rule.now) }
 {
     let kind = kind_word(rule.kind);
-    let pattern = row_word(alloc, rule.pattern.text(alloc)?)?;
+    let pattern = rule.pattern.text(alloc)?;
+    let pattern = row_word(alloc, pattern.as_str())?;
     let pattern = pattern.as_str();
     let action = action_word(rule.action);
     write!(out, "\n{place}\t{kind}\t{pattern}\t{action}")
 }
 
 #[tactic(auto, unfolding(crate::specs::ListingTexts::redirect_words))]
-pub fn append_redirect(out: &mut String, place: u32, redirect: &Redirect) -> Result<(), AllocError>
+pub fn append_redirect(
+    out: &mut String,
+    alloc: Global,
+    place: u32,
+    redirect: &Redirect,
+) -> Result<(), AllocError>
     ensures { OnOk result (string_bytes out.new
         ≡ string_bytes out.old ++ 10 ∷ spec.redirect_words place redirect.now) }
 {
     let kind = redirect_word(redirect.kind);
     let status = redirect.status;
-    let source = text_word(redirect.source.as_str());
-    let target = text_word(redirect.target.as_str());
+    let source = text_word(alloc, redirect.source.as_str())?;
+    let target = text_word(alloc, redirect.target.as_str())?;
+    let (source, target) = (source.as_str(), target.as_str());
     let force = force_end(redirect.force);
     write!(
         out,
@@ -256,7 +259,8 @@ pub fn seen_version_row(alloc: Global, version: &Version) -> Result<Text, AllocE
     ensures { IfOk result (λ row. row ≡ spec.seen_version_words version.now) }
 {
     let kind = kind_word(version.kind);
-    let (name, slug) = (version.name.as_str(), version.slug.as_str());
+    let name = row_word(alloc, version.name.as_str())?;
+    let (name, slug) = (name.as_str(), version.slug.as_str());
     let hidden = hidden_word(version.hidden);
     Ok(Text::wrap(format!(in alloc; "version\t{kind}\t{name}\t{slug}\t{hidden}")?))
 }
@@ -276,18 +280,28 @@ pub fn seen_redirect_row(alloc: Global, redirect: &Redirect) -> Result<Text, All
 {
     let kind = redirect_word(redirect.kind);
     let status = redirect.status;
-    let source = text_word(redirect.source.as_str());
-    let target = text_word(redirect.target.as_str());
+    let source = text_word(alloc, redirect.source.as_str())?;
+    let target = text_word(alloc, redirect.target.as_str())?;
+    let (source, target) = (source.as_str(), target.as_str());
     let force = force_end(redirect.force);
     Ok(Text::wrap(format!(in alloc; "redirect\t{kind}\t{status}\t{source}\t{target}{force}")?))
 }
 
-#[tactic(auto, unfolding(crate::specs::ListingTexts::seen_page_words))]
-pub fn seen_page_row(alloc: Global, page: &StoredPage) -> Result<Text, AllocError>
-    ensures { IfOk result (λ row. row ≡ spec.seen_page_words page.now) }
+/// The row of a page of a version in a language: its path, its media type and how many bytes its body has.
+#[tactic(auto, unfolding(crate::specs::ListingTexts::sized_page_words))]
+pub fn seen_page_row(
+    alloc: Global,
+    slug: &Slug,
+    lang: &Lang,
+    path: &PagePath,
+    media: &Text,
+    size: usize,
+) -> Result<Text, AllocError>
+    ensures { IfOk result
+        (λ row. row ≡ spec.sized_page_words slug.now lang.now path.now media.now size) }
 {
-    let (slug, lang) = (page.slug.as_str(), page.lang.as_str());
-    let (path, media) = (page.path.as_str(), page.page.media.as_str());
-    let size = page.page.body.as_slice().len();
+    let (slug, lang) = (slug.as_str(), lang.as_str());
+    let path = row_word(alloc, path.as_str())?;
+    let (path, media) = (path.as_str(), media.as_str());
     Ok(Text::wrap(format!(in alloc; "page\t{slug}\t{lang}\t{path}\t{media}\t{size}")?))
 }

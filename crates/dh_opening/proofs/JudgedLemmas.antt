@@ -1,5 +1,5 @@
 -- Records that are read row by row, each judged as it is read.
-use Rattle.std.proofs.Common.{◌≡◌, ℕ, List, [], ◌∷◌, ◌++◌, map, Option, Some, None, refl, sym, subst, ap, ap₂, ◌∙◌, Less}
+use Rattle.std.proofs.Common.{◌≡◌, ℕ, List, [], ◌∷◌, ◌++◌, map, Option, Some, None, sym, subst, ap, ap₂, ◌∙◌, Less}
 use Rattle.std.specs.List.{AllByRecursion}
 use Rattle.sqlite_value.specs.Order.{Row, row_cmp}
 use Rattle.sqlite_trees.specs.Tree.{IsAscending}
@@ -11,31 +11,13 @@ use Rattle.dh_rows.specs.Whole.{AreRowids}
 use Rattle.dh_rows.proofs.Lists.{by_key_total}
 use Rattle.dh_rows.proofs.Whole.{AreTextsOf, IsCodingOf}
 use Rattle.dh_records.specs.Constraints.{InOrder}
+use Rattle.dh_tables.proofs.LongerLists.{all_parts, map_more, unsnoc}
 use Rattle.dh_opening.proofs.Telling.{stand_for, told_of}
 use Rattle.dh_opening.specs.Judged.{AreFitRows, IsNewest, KeepsFitOne, StandFit}
 use Rattle.dh_opening.specs.Opening.{AnswersQuery, AreLaid}
 use Rattle.dh_opening.specs.Rows.{IsNext, part}
 
 -- ---- lists that are longer by one
-
-pub unsnoc : {X : Type 0} (f : X → Row) (rows : List Row) (row : Row) (xs : List X) → rows ++ row ∷ [] ≡ map f xs → (front : List X) × (x : X) × (xs ≡ front ++ x ∷ []) × (rows ≡ map f front) × (row ≡ f x)
-unsnoc f [] row [] e = absurd (cc)
-unsnoc f [] row (x ∷ []) e = let same : row ≡ f x = cc in ([], x, refl, refl, same)
-unsnoc f [] row (x ∷ y ∷ xs) e = absurd (cc)
-unsnoc f (r ∷ rows) row [] e = absurd (cc)
-unsnoc f (r ∷ rows) row (x ∷ xs) e =
-    let behind : rows ++ row ∷ [] ≡ map f xs = cc in
-    let first : r ≡ f x = cc in
-    let it = unsnoc f rows row xs behind in
-    (x ∷ it.0, it.1, ap (λ l. x ∷ l) it.2, ap₂ ◌∷◌ first it.3, it.4)
-
-pub map_more : {X Y : Type 0} (f : X → Y) (xs : List X) (x : X) → map f xs ++ f x ∷ [] ≡ map f (xs ++ x ∷ [])
-map_more f [] x = refl
-map_more f (y ∷ ys) x = ap (λ l. f y ∷ l) (map_more f ys x)
-
-all_parts : {X : Type 0} (P : X → Type 0) (xs ys : List X) → AllByRecursion P (xs ++ ys) → AllByRecursion P xs × AllByRecursion P ys
-all_parts P [] ys h = (tt, h)
-all_parts P (x ∷ xs) ys h = let it = all_parts P xs ys h.1 in ((h.0, it.0), it.1)
 
 up_front : {X : Type 0} (R : X → X → Type 0) (xs : List X) (y : X) → IsAscending R (xs ++ y ∷ []) → IsAscending R xs × AllByRecursion (λ x. R x y) xs
 up_front R [] y h = (tt, tt)

@@ -16,7 +16,8 @@ use Rattle.dh_constraints.specs.Lists.{lists_in}
 use Rattle.dh_constraints.specs.declared.records.Records.{Records}
 use Rattle.sqlite.specs.Effect.{Database}
 use Rattle.dh_opening.specs.declared.thin_pages.ThinPages.{ThinPages}
-use Rattle.dh_opening.proofs.JudgedLemmas.{map_more, next_more}
+use Rattle.dh_tables.proofs.LongerLists.{map_more}
+use Rattle.dh_opening.proofs.JudgedLemmas.{next_more}
 use Rattle.dh_opening.specs.Judged.{IsNewest}
 use Rattle.dh_opening.specs.ThinPages.{AreThinIn, FindsNext, HasFound, IsFit, TookPages, made_whole, thin, thinned}
 

@@ -7,7 +7,8 @@ use Rattle.dh_ports.specs.declared.fault.Fault.{Fault}
 use Rattle.dh_world.specs.World.{Text, World}
 use Rattle.dh_lines.specs.declared.lines.Line.{Line}
 use Rattle.dh_lines.specs.declared.lines.Order.{Order}
-use Rattle.dh_lines.specs.declared.lines.Order.TheVariants as order
+use Rattle.dh_lines.specs.declared.lines.Order.TheVariants.{Desk, File, Program}
+use Rattle.dh_lines.specs.declared.lines.DeskOrder.TheVariants as desk
 use Rattle.dh_listings.specs.declared.words.ListWord.{ListWord}
 use Rattle.dh_script.specs.Explaining.{DoesLineFor, DoesOverFor, ExplainsList, GetsFor, ListsFor, PerformsFor, PerformsSingleFor}
 use Rattle.dh_script.specs.Outcomes.{is_refusal}
@@ -21,17 +22,14 @@ module _ (before after : World) (text : Text) (reason : Option Reason) where
   gets host pass moment (Some target) it = (is_refusal (outcome_of_read it.0), (it.0, it.1, (it.2.0, refl)))
 
   pub performs : (moment : ℕ) (o : Order) → PerformsFor moment before o after text reason → DoesOrder moment before o after text
-  performs moment (order.Act command) it = (is_refusal (outcome_of it.0), (it.0, it.1, (it.2.0, refl)))
-  performs moment (order.Get host target pass own) it =
+  performs moment (Desk (desk.Act command)) it = (is_refusal (outcome_of it.0), (it.0, it.1, (it.2.0, refl)))
+  performs moment (Desk (desk.Get host target pass own)) it =
       let its = gets host pass (unwrap_or own moment) (target_of target) it.1 in
       (its.0, (it.0, its.1))
-  performs moment (order.Import host list) it = (true, (it.0, (it.1.0, refl)))
-  performs moment (order.List word) it = (true, (it.0, (it.1.0, refl)))
-  performs moment (order.Init file) it = (true, (it.0, (it.1.0, refl)))
-  performs moment (order.Migrate file) it = (true, (it.0, (it.1.0, refl)))
-  performs moment order.Script it = (true, (it.0, (it.1.0, refl)))
-  performs moment order.Answer it = (true, (it.0, (it.1.0, refl)))
-  performs moment (order.Serve count port log wait) it = (true, (it.0, (it.1.0, refl)))
+  performs moment (Desk (desk.Import host list)) it = (true, (it.0, (it.1.0, refl)))
+  performs moment (Desk (desk.List word)) it = (true, (it.0, (it.1.0, refl)))
+  performs moment (File o) it = (true, (it.0, (it.1.0, refl)))
+  performs moment (Program o) it = (true, (it.0, (it.1.0, refl)))
 
   told_list : (listed : Result (Option Text) Fault) → ExplainsList listed text reason → (refused : Bool) × TellsList listed text refused
   told_list (Ok (Some found)) it = (false, (it.0, refl))
@@ -42,15 +40,12 @@ module _ (before after : World) (text : Text) (reason : Option Reason) where
   lists moment word it = let its = told_list it.0 it.2 in (its.0, (it.0, it.1, its.1))
 
   pub singly : (moment : ℕ) (o : Order) → PerformsSingleFor moment before o after text reason → (refused : Bool) × PerformsSingle moment before o after text refused
-  singly moment (order.List word) it = let its = lists moment word it.1 in (its.0, (it.0, its.1))
-  singly moment (order.Act command) it = performs moment (order.Act command) it
-  singly moment (order.Get host target pass own) it = performs moment (order.Get host target pass own) it
-  singly moment (order.Import host list) it = performs moment (order.Import host list) it
-  singly moment (order.Init file) it = performs moment (order.Init file) it
-  singly moment (order.Migrate file) it = performs moment (order.Migrate file) it
-  singly moment order.Script it = performs moment order.Script it
-  singly moment order.Answer it = performs moment order.Answer it
-  singly moment (order.Serve count port log wait) it = performs moment (order.Serve count port log wait) it
+  singly moment (Desk (desk.List word)) it = let its = lists moment word it.1 in (its.0, (it.0, its.1))
+  singly moment (Desk (desk.Act command)) it = performs moment (Desk (desk.Act command)) it
+  singly moment (Desk (desk.Get host target pass own)) it = performs moment (Desk (desk.Get host target pass own)) it
+  singly moment (Desk (desk.Import host list)) it = performs moment (Desk (desk.Import host list)) it
+  singly moment (File o) it = performs moment (File o) it
+  singly moment (Program o) it = performs moment (Program o) it
 
   over : (moment : ℕ) (store : Option Text) (o : Order) → DoesOverFor moment before store o after text reason → DoesOver moment before store o after text
   over moment None o it = performs moment o it

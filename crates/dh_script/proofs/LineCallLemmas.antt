@@ -10,7 +10,8 @@ use Rattle.dh_histories.specs.CallsDone.{IsCallDone, AreCallsDone, outcome_of, o
 use Rattle.dh_lines.specs.Lines.{line_in}
 use Rattle.dh_lines.specs.declared.lines.Line.{Line}
 use Rattle.dh_lines.specs.declared.lines.Order.{Order}
-use Rattle.dh_lines.specs.declared.lines.Order.TheVariants as order
+use Rattle.dh_lines.specs.declared.lines.Order.TheVariants.{Desk, File, Program}
+use Rattle.dh_lines.specs.declared.lines.DeskOrder.TheVariants as desk
 use Rattle.dh_script.specs.Outcomes.{text_of_outcome}
 use Rattle.dh_script.specs.Script.{GetsAt, DoesOrder, DoesOver, DoesLine}
 use Rattle.dh_script.specs.LineCalls.{read_of_target, call_of_order, call_over, call_of_line, calls_of_lines, add_call, print_first, printed_by, LinesAreCalls}
@@ -26,15 +27,12 @@ of_target before after host pass moment None text refused same did = (same, did.
 of_target before after host pass moment (Some t) text refused same (answer, value, tells) = (outcome_of_read answer, (answer, same, value, refl), tells.0)
 
 of_order : (moment : ℕ) (before after : World) (o : Order) (text : Text) → DoesOrder moment before o after text → IsLineDone before (call_of_order moment o) after text
-of_order moment before after (order.Act c) text (refused, (answer, stepped, tells)) = (outcome_of answer, (answer, stepped, refl), tells.0)
-of_order moment before after (order.Get host target pass own) text (refused, (same, did)) = of_target before after host pass (unwrap_or own moment) (target_of target) text refused same did
-of_order moment before after (order.Import host list) text (refused, (same, did)) = (same, did.0)
-of_order moment before after (order.List word) text (refused, (same, did)) = (same, did.0)
-of_order moment before after (order.Init file) text (refused, (same, did)) = (same, did.0)
-of_order moment before after (order.Migrate file) text (refused, (same, did)) = (same, did.0)
-of_order moment before after order.Script text (refused, (same, did)) = (same, did.0)
-of_order moment before after order.Answer text (refused, (same, did)) = (same, did.0)
-of_order moment before after (order.Serve count port log wait) text (refused, (same, did)) = (same, did.0)
+of_order moment before after (Desk (desk.Act c)) text (refused, (answer, stepped, tells)) = (outcome_of answer, (answer, stepped, refl), tells.0)
+of_order moment before after (Desk (desk.Get host target pass own)) text (refused, (same, did)) = of_target before after host pass (unwrap_or own moment) (target_of target) text refused same did
+of_order moment before after (Desk (desk.Import host list)) text (refused, (same, did)) = (same, did.0)
+of_order moment before after (Desk (desk.List word)) text (refused, (same, did)) = (same, did.0)
+of_order moment before after (File o) text (refused, (same, did)) = (same, did.0)
+of_order moment before after (Program o) text (refused, (same, did)) = (same, did.0)
 
 of_line : (moment : ℕ) (before after : World) (line : Option Line) (text : Text) → DoesLine moment before line after text → IsLineDone before (call_of_line moment line) after text
 of_line moment before after None text did = did

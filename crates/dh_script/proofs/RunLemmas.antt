@@ -10,6 +10,7 @@ use Rattle.dh_lines.specs.Lines.{line_in}
 use Rattle.dh_ports.specs.Ports.{PutsFirst}
 use Rattle.dh_script.specs.Script.{DoesLine, MayDoLine}
 use Rattle.dh_script.specs.declared.fault.RunFault.{RunFault}
+use Rattle.dh_script.specs.declared.script.NumberedLine.{NumberedLine}
 use Rattle.dh_script.specs.Running.{RunsLines, RunsInto, RunsSome, StopsAt, Ran, RunsBut, RanBut, RunsScript, lines_in, words_seen, worded, words_in, is_filled}
 
 -- two runs, one after the other, are a run
@@ -130,35 +131,37 @@ pub on_err : {T E P : Type 0} (r : Result T E) → P → OnErr r P
 on_err (Ok value) p = tt
 on_err (Err fault) p = p
 
--- one line more of a list
-pub seen_more : {Y Z : Type 0} (lines : List (Vec (String Y) Z)) (i : ℕ) (words : Vec (String Y) Z) → i < length lines → words_seen (take (i + 1) lines) ≡ words_seen (take i lines) ++ map string_bytes (get_or lines i words).items ∷ []
-seen_more lines i words below =
-    ap words_seen (take_more lines i words below) ∙ map-append (λ (w : Vec _ _). map string_bytes w.items) (take i lines) (get_or lines i words ∷ [])
+abbrev its_words : NumberedLine → List Text
+its_words line = map string_bytes line.words.items
 
-pub seen_parts : {Y Z : Type 0} (lines : List (Vec (String Y) Z)) (i : ℕ) → words_seen (take i lines) ++ words_seen (drop i lines) ≡ words_seen lines
-seen_parts lines i =
-    sym (map-append (λ (w : Vec _ _). map string_bytes w.items) (take i lines) (drop i lines)) ∙ ap words_seen (take-append-drop i lines)
+-- one line more of a list
+pub seen_more : (lines : List NumberedLine) (i : ℕ) (line : NumberedLine) → i < length lines → words_seen (take (i + 1) lines) ≡ words_seen (take i lines) ++ its_words (get_or lines i line) ∷ []
+seen_more lines i line below =
+    ap words_seen (take_more lines i line below) ∙ map-append its_words (take i lines) (get_or lines i line ∷ [])
+
+pub seen_parts : (lines : List NumberedLine) (i : ℕ) → words_seen (take i lines) ++ words_seen (drop i lines) ≡ words_seen lines
+seen_parts lines i = sym (map-append its_words (take i lines) (drop i lines)) ∙ ap words_seen (take-append-drop i lines)
 
 -- a batch's lines up to one, which ran
-pub batch_on : {Y Z : Type 0} (moment : ℕ) (lines : List (Vec (String Y) Z)) (n : ℕ) (words : Vec (String Y) Z) (shown : List (String Y)) (a b c : World) (h i j : Option Text) → RunsInto moment a (words_seen (take n lines)) b h i → RunsInto moment b (map string_bytes shown ∷ []) c i j → shown ≡ words.items → words ≡ get_or lines n words → n < length lines → RunsInto moment a (words_seen (take (n + 1) lines)) c h j
-batch_on moment lines n words shown a b c h i j first second same here below =
-    let one : map string_bytes shown ≡ map string_bytes (get_or lines n words).items = ap (map string_bytes) same ∙ ap (λ (w : Vec _ _). map string_bytes w.items) here in
-    let both : RunsInto moment a (words_seen (take n lines) ++ map string_bytes (get_or lines n words).items ∷ []) c h j =
+pub batch_on : {Y : Type 0} (moment : ℕ) (lines : List NumberedLine) (n : ℕ) (line : NumberedLine) (shown : List (String Y)) (a b c : World) (h i j : Option Text) → RunsInto moment a (words_seen (take n lines)) b h i → RunsInto moment b (map string_bytes shown ∷ []) c i j → map string_bytes shown ≡ its_words line → line ≡ get_or lines n line → n < length lines → RunsInto moment a (words_seen (take (n + 1) lines)) c h j
+batch_on moment lines n line shown a b c h i j first second same here below =
+    let one : map string_bytes shown ≡ its_words (get_or lines n line) = same ∙ ap its_words here in
+    let both : RunsInto moment a (words_seen (take n lines) ++ its_words (get_or lines n line) ∷ []) c h j =
     subst (λ ws. RunsInto moment a (words_seen (take n lines) ++ ws ∷ []) c h j) one (into_on moment a (words_seen (take n lines)) b (map string_bytes shown ∷ []) c h i j first second) in
-    subst (λ (zs : List (List Text)). RunsInto moment a zs c h j) (sym (seen_more lines n words below)) both
+    subst (λ (zs : List (List Text)). RunsInto moment a zs c h j) (sym (seen_more lines n line below)) both
 
 -- up to one, at which the run ended
-pub batch_some : {Y Z : Type 0} (moment : ℕ) (lines : List (Vec (String Y) Z)) (n : ℕ) (words : Vec (String Y) Z) (shown : List (String Y)) (a b c : World) (h i j : Option Text) → RunsInto moment a (words_seen (take n lines)) b h i → RunsSome moment b (map string_bytes shown ∷ []) c i j → shown ≡ words.items → words ≡ get_or lines n words → n < length lines → RunsSome moment a (words_seen lines) c h j
-batch_some moment lines n words shown a b c h i j first second same here below =
-    let one : map string_bytes shown ≡ map string_bytes (get_or lines n words).items = ap (map string_bytes) same ∙ ap (λ (w : Vec _ _). map string_bytes w.items) here in
-    let both : RunsSome moment a (words_seen (take n lines) ++ map string_bytes (get_or lines n words).items ∷ []) c h j =
+pub batch_some : {Y : Type 0} (moment : ℕ) (lines : List NumberedLine) (n : ℕ) (line : NumberedLine) (shown : List (String Y)) (a b c : World) (h i j : Option Text) → RunsInto moment a (words_seen (take n lines)) b h i → RunsSome moment b (map string_bytes shown ∷ []) c i j → map string_bytes shown ≡ its_words line → line ≡ get_or lines n line → n < length lines → RunsSome moment a (words_seen lines) c h j
+batch_some moment lines n line shown a b c h i j first second same here below =
+    let one : map string_bytes shown ≡ its_words (get_or lines n line) = same ∙ ap its_words here in
+    let both : RunsSome moment a (words_seen (take n lines) ++ its_words (get_or lines n line) ∷ []) c h j =
     subst (λ ws. RunsSome moment a (words_seen (take n lines) ++ ws ∷ []) c h j) one (some_on moment a (words_seen (take n lines)) b (map string_bytes shown ∷ []) c h i j first second) in
-    let at : RunsSome moment a (words_seen (take (n + 1) lines)) c h j = subst (λ (zs : List (List Text)). RunsSome moment a zs c h j) (sym (seen_more lines n words below)) both in
+    let at : RunsSome moment a (words_seen (take (n + 1) lines)) c h j = subst (λ (zs : List (List Text)). RunsSome moment a zs c h j) (sym (seen_more lines n line below)) both in
     subst (λ (zs : List (List Text)). RunsSome moment a zs c h j) (seen_parts lines (n + 1)) (some_more moment a (words_seen (take (n + 1) lines)) (words_seen (drop (n + 1) lines)) c h j at)
 
 -- all of them
-pub batch_ends : {Y Z : Type 0} (moment : ℕ) (lines : List (Vec (String Y) Z)) (n : ℕ) (a b : World) (h i : Option Text) → RunsInto moment a (words_seen (take n lines)) b h i → length lines ≤ n → RunsInto moment a (words_seen lines) b h i
-batch_ends moment lines n a b h i first over = subst (λ (xs : List (Vec _ _)). RunsInto moment a (words_seen xs) b h i) (take_all n lines over) first
+pub batch_ends : (moment : ℕ) (lines : List NumberedLine) (n : ℕ) (a b : World) (h i : Option Text) → RunsInto moment a (words_seen (take n lines)) b h i → length lines ≤ n → RunsInto moment a (words_seen lines) b h i
+batch_ends moment lines n a b h i first over = subst (λ (xs : List NumberedLine). RunsInto moment a (words_seen xs) b h i) (take_all n lines over) first
 
 -- the lines with words of two parts
 pub worded_on : (xs ys : List Text) → worded (xs ++ ys) ≡ worded xs ++ worded ys
@@ -188,30 +191,30 @@ unfolding worded
 worded_empty line words same none = ap (λ (ws : List Text). filter is_filled (ws ∷ [])) (sym same) ∙ one_empty words none
 
 -- a batch with one line more
-pub added : {Y Z : Type 0} (old new : List (Vec (String Y) Z)) (words : Vec (String Y) Z) (line : Text) → new ≡ old ++ words ∷ [] → map string_bytes words.items ≡ words_in line → 0 < length words.items → words_seen new ≡ words_seen old ++ worded (line ∷ [])
-added old new words line grown same some =
-    ap words_seen grown ∙ map-append (λ (w : Vec _ _). map string_bytes w.items) old (words ∷ [])
-    ∙ ap (λ zs. words_seen old ++ zs) (sym (worded_one line (map string_bytes words.items) same (omega (arith, length-map words.items string_bytes))))
+pub added : (old new : List NumberedLine) (last : NumberedLine) (line : Text) → new ≡ old ++ last ∷ [] → its_words last ≡ words_in line → 0 < length last.words.items → words_seen new ≡ words_seen old ++ worded (line ∷ [])
+added old new last line grown same some =
+    ap words_seen grown ∙ map-append its_words old (last ∷ [])
+    ∙ ap (λ zs. words_seen old ++ zs) (sym (worded_one line (its_words last) same (omega (arith, length-map last.words.items string_bytes))))
 
 -- a batch that stays
-pub stayed : {Y Z : Type 0} (old : List (Vec (String Y) Z)) (words : Vec (String Y) Z) (line : Text) → map string_bytes words.items ≡ words_in line → length words.items ≡ 0 → words_seen old ≡ words_seen old ++ worded (line ∷ [])
+pub stayed : {Y Z : Type 0} (old : List NumberedLine) (words : Vec (String Y) Z) (line : Text) → map string_bytes words.items ≡ words_in line → length words.items ≡ 0 → words_seen old ≡ words_seen old ++ worded (line ∷ [])
 stayed old words line same none =
     sym (append-nil (words_seen old))
     ∙ ap (λ zs. words_seen old ++ zs) (sym (worded_empty line (map string_bytes words.items) same (omega (arith, length-map words.items string_bytes))))
 
 -- nothing ran, and nothing waits
-pub but_none : {Y Z : Type 0} (moment : ℕ) (w : World) (held : Option Text) (batch : List (Vec (String Y) Z)) → batch ≡ [] → RunsBut moment w (worded []) w held held (words_seen batch)
+pub but_none : (moment : ℕ) (w : World) (held : Option Text) (batch : List NumberedLine) → batch ≡ [] → RunsBut moment w (worded []) w held held (words_seen batch)
 but_none moment w held batch none = record { done = []; parts = worded_none ∙ ap words_seen (sym none); into = into_none moment w held }
 
 -- nothing ran, and a batch waits
-pub but_waits : {Y Z : Type 0} (moment : ℕ) (w : World) (held : Option Text) (batch : List (Vec (String Y) Z)) (lines : List (List Text)) → words_seen batch ≡ lines → RunsBut moment w lines w held held (words_seen batch)
+pub but_waits : (moment : ℕ) (w : World) (held : Option Text) (batch : List NumberedLine) (lines : List (List Text)) → words_seen batch ≡ lines → RunsBut moment w lines w held held (words_seen batch)
 but_waits moment w held batch lines same = record { done = []; parts = sym same; into = into_none moment w held }
 
 -- a batch ran, and nothing waits
-pub but_all : {Y Z : Type 0} (moment : ℕ) (a b : World) (h i : Option Text) (ran batch : List (Vec (String Y) Z)) (lines : List (List Text)) → words_seen ran ≡ lines → batch ≡ [] → RunsInto moment a (words_seen ran) b h i → RunsBut moment a lines b h i (words_seen batch)
+pub but_all : (moment : ℕ) (a b : World) (h i : Option Text) (ran batch : List NumberedLine) (lines : List (List Text)) → words_seen ran ≡ lines → batch ≡ [] → RunsInto moment a (words_seen ran) b h i → RunsBut moment a lines b h i (words_seen batch)
 but_all moment a b h i ran batch lines same none into = record {
   done = words_seen ran;
-  parts = sym same ∙ sym (append-nil (words_seen ran)) ∙ ap (λ (xs : List (Vec _ _)). words_seen ran ++ words_seen xs) (sym none);
+  parts = sym same ∙ sym (append-nil (words_seen ran)) ∙ ap (λ (xs : List NumberedLine). words_seen ran ++ words_seen xs) (sym none);
   into = into;
 }
 

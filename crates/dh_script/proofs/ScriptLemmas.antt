@@ -26,7 +26,8 @@ use Rattle.dh_script.specs.declared.reasons.Reason.{Reason}
 use Rattle.dh_listings.specs.ListingTexts.{listing_text}
 use Rattle.dh_listings.specs.declared.words.ListWord.{ListWord}
 use Rattle.dh_lines.specs.declared.lines.Order.{Order}
-use Rattle.dh_lines.specs.declared.lines.Order.TheVariants as order
+use Rattle.dh_lines.specs.declared.lines.Order.TheVariants.{Desk, File, Program}
+use Rattle.dh_lines.specs.declared.lines.DeskOrder.TheVariants as desk
 use Rattle.dh_script.specs.Script.{outcome_of, outcome_of_read, TellsOutcome, PerformsOrder, GetsAt, DoesOver, MayDoLine, MayDoOrder, MayDoSingle, ListsAt, TellsList}
 
 -- what is told of a read's outcome, whose reply is the definition's
@@ -51,7 +52,7 @@ got_for text_in reason_in w named host shown pass moment t reply outcome result 
 
 -- what is told of a command's outcome, which is one step
 pub act_told : {P E : Type 0} (text_in : P → Text) (refused_in : P → Bool) (moment : ℕ) (before after : World) (c : Command) (o : Order) (answer : Result Answer Refusal) (outcome : Outcome) (result : Result P E)
-    → IsStep before after c answer → outcome ≡ outcome_of answer → o ≡ order.Act c → IfOk result (λ p. TellsOutcome outcome (text_in p) (refused_in p))
+    → IsStep before after c answer → outcome ≡ outcome_of answer → o ≡ Desk (desk.Act c) → IfOk result (λ p. TellsOutcome outcome (text_in p) (refused_in p))
     → IfOk result (λ p. PerformsOrder moment before o after (text_in p) (refused_in p))
 act_told text_in refused_in moment before after c o answer outcome result step same is =
     IfOk-weaker result _ _
@@ -60,7 +61,7 @@ act_told text_in refused_in moment before after c o answer outcome result step s
 
 -- the same with its reason
 pub act_for : {P E : Type 0} (text_in : P → Text) (reason_in : P → Option Reason) (moment : ℕ) (before after : World) (c : Command) (o : Order) (answer : Result Answer Refusal) (outcome : Outcome) (result : Result P E)
-    → IsStep before after c answer → outcome ≡ outcome_of answer → o ≡ order.Act c → IfOk result (λ p. ExplainsOutcome outcome (text_in p) (reason_in p))
+    → IsStep before after c answer → outcome ≡ outcome_of answer → o ≡ Desk (desk.Act c) → IfOk result (λ p. ExplainsOutcome outcome (text_in p) (reason_in p))
     → IfOk result (λ p. PerformsFor moment before o after (text_in p) (reason_in p))
 act_for text_in reason_in moment before after c o answer outcome result step same is =
     IfOk-weaker result _ _
@@ -128,15 +129,12 @@ may_line moment before after line none (inr did) =
 -- what a line of an order may do, a single one may
 of_line : (moment : ℕ) (before after : World) (o : Order) → MayDoOrder moment before o after → MayDoSingle moment before o after
 of_line moment before after o (inl same) = inl same
-of_line moment before after (order.Act c) (inr (text, (refused, did))) = inr (text, refused, did)
-of_line moment before after (order.Get host target pass own) (inr (text, (refused, did))) = inr (text, refused, did)
-of_line moment before after (order.Import host list) (inr (text, (refused, did))) = inr (text, refused, did)
-of_line moment before after (order.List word) (inr (text, (refused, did))) = inl did.0
-of_line moment before after (order.Init file) (inr (text, (refused, did))) = inr (text, refused, did)
-of_line moment before after (order.Migrate file) (inr (text, (refused, did))) = inr (text, refused, did)
-of_line moment before after order.Script (inr (text, (refused, did))) = inr (text, refused, did)
-of_line moment before after order.Answer (inr (text, (refused, did))) = inr (text, refused, did)
-of_line moment before after (order.Serve count port log wait) (inr (text, (refused, did))) = inr (text, refused, did)
+of_line moment before after (Desk (desk.Act c)) (inr (text, (refused, did))) = inr (text, refused, did)
+of_line moment before after (Desk (desk.Get host target pass own)) (inr (text, (refused, did))) = inr (text, refused, did)
+of_line moment before after (Desk (desk.Import host list)) (inr (text, (refused, did))) = inr (text, refused, did)
+of_line moment before after (Desk (desk.List word)) (inr (text, (refused, did))) = inl did.0
+of_line moment before after (File o) (inr (text, (refused, did))) = inr (text, refused, did)
+of_line moment before after (Program o) (inr (text, (refused, did))) = inr (text, refused, did)
 
 pub may_single : {T E : Type 0} (r : Result T E) (moment : ℕ) (before after : World) (o : Order) → OnErr r (MayDoOrder moment before o after) → OnErr r (MayDoSingle moment before o after)
 may_single (Ok x) moment before after o may = tt

@@ -20,7 +20,8 @@ use Rattle.dh_listings.specs.ListingTexts.{listing_text}
 use Rattle.dh_listings.specs.declared.words.ListWord.{ListWord}
 use Rattle.dh_lines.specs.declared.lines.Line.{Line}
 use Rattle.dh_lines.specs.declared.lines.Order.{Order}
-use Rattle.dh_lines.specs.declared.lines.Order.TheVariants as order
+use Rattle.dh_lines.specs.declared.lines.Order.TheVariants.{Desk}
+use Rattle.dh_lines.specs.declared.lines.DeskOrder.TheVariants as desk
 use Rattle.dh_script.specs.Outcomes.{text_of_outcome}
 use Rattle.dh_script.specs.Reasons.{reason_of}
 use Rattle.dh_script.specs.declared.reasons.Reason.{Reason}
@@ -56,17 +57,17 @@ ListsFor moment w word text reason =
 
 -- an order, as `PerformsOrder` has it
 abbrev pub PerformsFor : ℕ → World → Order → World → Text → Option Reason → Type 0
-PerformsFor moment before (order.Act c) after text reason =
+PerformsFor moment before (Desk (desk.Act c)) after text reason =
     (answer : Result Answer Refusal) × IsStep before after c answer
     × ExplainsOutcome (outcome_of answer) text reason
-PerformsFor moment before (order.Get host target pass own) after text reason =
+PerformsFor moment before (Desk (desk.Get host target pass own)) after text reason =
     (after ≡ before)
     × GetsFor before host pass (unwrap_or own moment) (target_of target) text reason
 PerformsFor moment before _ after text reason = (after ≡ before) × ExplainsUsage text reason
 
 -- a single order, as `PerformsSingle` has it
 abbrev pub PerformsSingleFor : ℕ → World → Order → World → Text → Option Reason → Type 0
-PerformsSingleFor moment before (order.List word) after text reason =
+PerformsSingleFor moment before (Desk (desk.List word)) after text reason =
     (after ≡ before) × ListsFor moment before word text reason
 PerformsSingleFor moment before order after text reason = PerformsFor moment before order after text reason
 

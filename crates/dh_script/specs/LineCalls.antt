@@ -10,7 +10,8 @@ use Rattle.dh_histories.specs.CallsDone.{AreCallsDone}
 use Rattle.dh_lines.specs.Lines.{line_in}
 use Rattle.dh_lines.specs.declared.lines.Line.{Line}
 use Rattle.dh_lines.specs.declared.lines.Order.{Order}
-use Rattle.dh_lines.specs.declared.lines.Order.TheVariants as order
+use Rattle.dh_lines.specs.declared.lines.Order.TheVariants.{Desk}
+use Rattle.dh_lines.specs.declared.lines.DeskOrder.TheVariants as desk
 use Rattle.dh_script.specs.Outcomes.{text_of_outcome}
 use Rattle.dh_script.specs.Running.{RunsLines}
 
@@ -22,8 +23,8 @@ read_of_target host pass moment (Some t) =
 
 -- the call that an order is at this moment, or what is printed for an order that is no call
 abbrev pub call_of_order : ℕ → Order → Result Call Text
-call_of_order moment (order.Act c) = Ok (Act c)
-call_of_order moment (order.Get host target pass own) =
+call_of_order moment (Desk (desk.Act c)) = Ok (Act c)
+call_of_order moment (Desk (desk.Get host target pass own)) =
     read_of_target host pass (unwrap_or own moment) (target_of target)
 call_of_order moment _ = Err (codes "usage")
 

@@ -1,7 +1,7 @@
 -- How a script is cut into lines and words, and what its lines do one after another, at one moment.
 use Rattle.std.specs.Prelude.{◌≡◌, ◌⊎◌, ℕ, ◌<◌, ◌==◌, Bool, true, false, ◌||◌, if◌then◌else◌}
 use Rattle.std.specs.Prelude.{List, [], ◌∷◌, ◌++◌, map, length, take, slice_index, string_bytes}
-use Rattle.std.specs.Prelude.{Option, IfSome, Result, Ok, Err, String, Vec}
+use Rattle.std.specs.Prelude.{Option, IfSome, Result, Ok, Err}
 use Rattle.std.specs.List.{filter, slice_split}
 use Rattle.std.specs.Str.Lines.{lines}
 use Rattle.std.specs.Io.KnownBytes.{Appends}
@@ -10,6 +10,7 @@ use Rattle.dh_lines.specs.Lines.{line_in}
 use Rattle.dh_script.specs.Script.{DoesLine}
 use Rattle.dh_script.specs.declared.fault.RunFault.{RunFault}
 use Rattle.dh_script.specs.declared.fault.RunFault.TheVariants.{Write}
+use Rattle.dh_script.specs.declared.script.NumberedLine.{NumberedLine}
 
 -- whether the answer is that the writer failed
 abbrev pub stopped_by_writer : {T : Type 0} → Result T RunFault → Bool
@@ -45,8 +46,8 @@ abbrev pub LinesHaveWords : Type 0
 LinesHaveWords = (script : Text) → map words_in (with_words (lines script)) ≡ lines_in script
 
 -- lines by the bytes of their words
-abbrev pub words_seen : {Y Z : Type 0} → List (Vec (String Y) Z) → List (List Text)
-words_seen lines = map (λ words. map string_bytes words.items) lines
+abbrev pub words_seen : List NumberedLine → List (List Text)
+words_seen lines = map (λ line. map string_bytes line.words.items) lines
 
 -- these lines run one after another, from the world before to the world after, and print this text: that of each line, and LF
 abbrev pub RunsLines : ℕ → World → List (List Text) → World → Text → Type 0

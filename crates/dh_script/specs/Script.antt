@@ -21,7 +21,8 @@ use Rattle.dh_listings.specs.declared.words.ListWord.{ListWord}
 use Rattle.dh_script.specs.Outcomes.{text_of_outcome, is_refusal}
 use Rattle.dh_lines.specs.declared.lines.Line.{Line}
 use Rattle.dh_lines.specs.declared.lines.Order.{Order}
-use Rattle.dh_lines.specs.declared.lines.Order.TheVariants as order
+use Rattle.dh_lines.specs.declared.lines.Order.TheVariants.{Desk}
+use Rattle.dh_lines.specs.declared.lines.DeskOrder.TheVariants as desk
 use Rattle.dh_script.specs.declared.fault.ScriptFault.{ScriptFault}
 use Rattle.dh_script.specs.declared.fault.ScriptFault.TheVariants.{Run}
 -- the outcome of a command and of a read, by its answer
@@ -55,25 +56,12 @@ IsUsage text refused = (text ≡ codes "usage") × (refused ≡ true)
 -- what an order does to the world at a moment, or a read at its own, what it prints, and whether it is refused; an order that is
 -- no command and no read prints `usage`, and a command alone changes the world
 abbrev pub PerformsOrder : ℕ → World → Order → World → Text → Bool → Type 0
-PerformsOrder moment before (order.Act c) after text refused =
+PerformsOrder moment before (Desk (desk.Act c)) after text refused =
     PerformsCommand before c after text refused
-PerformsOrder moment before (order.Get host target pass own) after text refused =
+PerformsOrder moment before (Desk (desk.Get host target pass own)) after text refused =
     (after ≡ before)
     × GetsAt before host pass (unwrap_or own moment) (target_of target) text refused
-PerformsOrder moment before (order.Import host list) after text refused =
-    (after ≡ before) × IsUsage text refused
-PerformsOrder moment before (order.List word) after text refused =
-    (after ≡ before) × IsUsage text refused
-PerformsOrder moment before (order.Init file) after text refused =
-    (after ≡ before) × IsUsage text refused
-PerformsOrder moment before (order.Migrate file) after text refused =
-    (after ≡ before) × IsUsage text refused
-PerformsOrder moment before order.Script after text refused =
-    (after ≡ before) × IsUsage text refused
-PerformsOrder moment before order.Answer after text refused =
-    (after ≡ before) × IsUsage text refused
-PerformsOrder moment before (order.Serve count port log wait) after text refused =
-    (after ≡ before) × IsUsage text refused
+PerformsOrder moment before _ after text refused = (after ≡ before) × IsUsage text refused
 
 -- what an order does to the world at a moment and what it prints, whether it is refused or not
 abbrev pub DoesOrder : ℕ → World → Order → World → Text → Type 0
@@ -106,7 +94,7 @@ ListsAt moment w word text refused =
 -- what a single order does to the world at a moment, what it prints, and whether it is refused: an order that lists changes
 -- nothing, and prints the list; any other is performed as in a line
 abbrev pub PerformsSingle : ℕ → World → Order → World → Text → Bool → Type 0
-PerformsSingle moment before (order.List word) after text refused =
+PerformsSingle moment before (Desk (desk.List word)) after text refused =
     (after ≡ before) × ListsAt moment before word text refused
 PerformsSingle moment before order after text refused = PerformsOrder moment before order after text refused
 

@@ -18,4 +18,4 @@ pub use outcomes::outcome_text;
 pub use reading::read_script;
 pub use reasons::{Reason, read_reason};
 pub use report::{RefusedLine, Report};
-pub use script::{MOST_SCRIPT_BYTES, has_words, perform_line, run_script, words_of};
+pub use script::{MOST_SCRIPT_BYTES, has_words, perform_line, read_line, run_script};

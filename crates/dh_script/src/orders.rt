@@ -15,7 +15,7 @@ use crate::lists::list;
 use crate::outcomes::{is_refusal, outcome_text, reason_of};
 use crate::reasons::Reason;
 use dh_desk::{Desk, commanded, pass_text, read_out};
-use dh_lines::Order;
+use dh_lines::{DeskOrder, Order};
 use dh_paths::{Target, Text, TextFault};
 use dh_reply::Read;
 use dh_world::Outcome;
@@ -156,20 +156,20 @@ pub fn perform<S: Alter>(
     ensures told { IfOk result (λ p. BlamesStore S.Store desk.old desk.new p.reason) }
 {
     match order {
-        Order::Act(command) => told(alloc, &commanded(desk.apply(alloc, command))),
-        Order::Get {
-            host,
-            target,
-            pass,
-            moment,
-        } => do_get(alloc, desk, host, target, pass, moment.unwrap_or(now)),
-        Order::Import { .. } => usage(alloc),
-        Order::List(_) => usage(alloc),
-        Order::Init { .. } => usage(alloc),
-        Order::Migrate { .. } => usage(alloc),
-        Order::Script => usage(alloc),
-        Order::Answer => usage(alloc),
-        Order::Serve { .. } => usage(alloc),
+        Order::Desk(DeskOrder::Act(command)) => {
+            told(alloc, &commanded(desk.apply(alloc, command)))
+        }
+        Order::Desk(
+            DeskOrder::Get {
+                host,
+                target,
+                pass,
+                moment,
+            },
+        ) => do_get(alloc, desk, host, target, pass, moment.unwrap_or(now)),
+        Order::Desk(DeskOrder::Import { .. } | DeskOrder::List(_))
+        | Order::File(_)
+        | Order::Program(_) => usage(alloc),
     }
 }
 
@@ -191,14 +191,9 @@ pub fn perform_single<S: Alter>(
     ensures told { IfOk result (λ p. BlamesStore S.Store desk.old desk.new p.reason) }
 {
     match order {
-        Order::List(word) => list(alloc, desk, word, now),
-        Order::Act(_)
-        | Order::Get { .. }
-        | Order::Import { .. }
-        | Order::Init { .. }
-        | Order::Migrate { .. }
-        | Order::Script
-        | Order::Answer
-        | Order::Serve { .. } => perform(alloc, desk, order, now),
+        Order::Desk(DeskOrder::List(word)) => list(alloc, desk, word, now),
+        Order::Desk(DeskOrder::Act(_) | DeskOrder::Get { .. } | DeskOrder::Import { .. })
+        | Order::File(_)
+        | Order::Program(_) => perform(alloc, desk, order, now),
     }
 }

@@ -28,6 +28,14 @@ pub const MOST_SCRIPT_BYTES: usize = 1_048_576;
 /// The most lines that one program of words reads, since their words live as long as the program.
 const BATCH: usize = 1024;
 
+/// A line of a script that has words.
+#[derive(Drop)]
+struct NumberedLine {
+    /// Which line it is, from 1; empty lines and comments count.
+    number: usize,
+    words: Vec<String>,
+}
+
 /// Does what a line orders, where the line names no store.
 fn own_line<S: Alter>(
     alloc: Global,
@@ -45,6 +53,23 @@ fn own_line<S: Alter>(
     match &line.store {
         Some(_) => usage(alloc),
         None => Ok(perform(alloc, desk, &line.order, now)?),
+    }
+}
+
+/// Reads the line that some words are, by a program of words: none where they are no line.
+fn read_by<'a>(
+    alloc: Global,
+    program: &mut clap::Command<'a>,
+    words: &'a [String],
+) -> Result<Option<Line>, AllocError>
+    requires { StandsFor docs_app program.old }
+    ensures stands { StandsFor docs_app program.new }
+    ensures reads { IfOk result (λ line. line ≡ line_in (map string_bytes words.now)) }
+{
+    match line_by(alloc, program, words) {
+        Ok(line) => Ok(Some(line)),
+        Err(LineFault::Usage) => Ok(None),
+        Err(LineFault::Memory) => Err(AllocError),
     }
 }
 
@@ -68,19 +93,17 @@ fn line_printed<'a, S: Alter>(
         (λ before after. OnErr result
         (MayDoLine now before (line_in (map string_bytes words.now)) after)) }
 {
-    match line_by(alloc, program, words) {
-        Ok(line) => own_line(alloc, desk, &line, now),
-        Err(LineFault::Usage) => usage(alloc),
-        Err(LineFault::Memory) => Err(AllocError),
-    }
+    let line = read_by(alloc, program, words)?;
+    perform_line(alloc, desk, &line, now)
 }
 
-/// Does what the words of a line order, and writes what the line prints.
+/// Does what the words of the line of this number order, and writes what the line prints.
 fn run_words<'a, S: Alter, W: Sink>(
     alloc: Global,
     desk: &mut Desk<S>,
     program: &mut clap::Command<'a>,
     words: &'a [String],
+    number: usize,
     sink: &mut W,
     report: &mut Report,
     now: u64,
@@ -94,7 +117,7 @@ fn run_words<'a, S: Alter, W: Sink>(
         (W.held sink.old) (W.held sink.new) result) }
 {
     let printed = line_printed(alloc, desk, program, words, now)?;
-    report.note(printed.reason);
+    report.note(number, printed.reason);
     let mut text = printed.text;
     text.push('\n')?;
     put_all(sink, text.as_bytes()).map_err(|_| RunFault::Write)
@@ -104,7 +127,7 @@ fn run_words<'a, S: Alter, W: Sink>(
 fn run_batch<'a, S: Alter, W: Sink>(
     alloc: Global,
     desk: &mut Desk<S>,
-    lines: &'a [Vec<String>],
+    lines: &'a [NumberedLine],
     sink: &mut W,
     report: &mut Report,
     now: u64,
@@ -116,12 +139,13 @@ fn run_batch<'a, S: Alter, W: Sink>(
         (W.held sink.old) (W.held sink.new) result) }
 {
     let mut program = docs_command(alloc)?;
-    for words in lines {
+    for line in lines {
         run_words(
             alloc,
             desk,
             &mut program,
-            words.as_slice(),
+            line.words.as_slice(),
+            line.number,
             sink,
             report,
             now,
@@ -131,7 +155,7 @@ fn run_batch<'a, S: Alter, W: Sink>(
 }
 
 /// Splits a line of a script into its words, which stand between spaces and tabs. A comment has none.
-pub fn words_of(alloc: Global, line: &str) -> Result<Vec<String>, AllocError>
+fn words_of(alloc: Global, line: &str) -> Result<Vec<String>, AllocError>
     ensures { IfOk result (λ words. map string_bytes words.items ≡ words_in line.now) }
 {
     let mut words = Vec::new(alloc);
@@ -154,53 +178,60 @@ pub fn has_words(alloc: Global, line: &str) -> Result<bool, AllocError>
     Ok(!words.is_empty())
 }
 
-/// Does one line of a script, as `run_script` does each of its lines, and gives what the line prints. A line without words prints
-/// `usage`.
-pub fn perform_line<S: Alter>(
-    alloc: Global,
-    desk: &mut Desk<S>,
-    line: &str,
-    now: u64,
-) -> Result<Printed, AllocError>
-    ensures does { WorldGoesBy S.Store desk.old desk.new (λ before after. IfOk result
-        (λ p. DoesLine now before (line_in (words_in line.now)) after (string_bytes p.text))) }
-    ensures why { WorldGoesBy S.Store desk.old desk.new (λ before after. IfOk result
-        (λ p. DoesLineFor now before (line_in (words_in line.now)) after
-        (string_bytes p.text) p.reason)) }
-    ensures may { WorldGoesBy S.Store desk.old desk.new
-        (λ before after. OnErr result
-        (MayDoLine now before (line_in (words_in line.now)) after)) }
+/// Reads a line of a script: none where its words are no line.
+pub fn read_line(alloc: Global, line: &str) -> Result<Option<Line>, AllocError>
+    ensures { IfOk result (λ read. read ≡ line_in (words_in line.now)) }
 {
     let words = words_of(alloc, line)?;
     let mut program = docs_command(alloc)?;
-    line_printed(alloc, desk, &mut program, words.as_slice(), now)
+    read_by(alloc, &mut program, words.as_slice())
 }
 
-/// Adds the words of a line to a batch, unless it has none. A report expects each line that is added.
+/// Does a line of a script that was read, as `run_script` does each of its lines, and gives what the line prints: `usage` where it
+/// is none.
+pub fn perform_line<S: Alter>(
+    alloc: Global,
+    desk: &mut Desk<S>,
+    line: &Option<Line>,
+    now: u64,
+) -> Result<Printed, AllocError>
+    ensures does { WorldGoesBy S.Store desk.old desk.new (λ before after. IfOk result
+        (λ p. DoesLine now before line.now after (string_bytes p.text))) }
+    ensures why { WorldGoesBy S.Store desk.old desk.new (λ before after. IfOk result
+        (λ p. DoesLineFor now before line.now after (string_bytes p.text) p.reason)) }
+    ensures may { WorldGoesBy S.Store desk.old desk.new
+        (λ before after. OnErr result (MayDoLine now before line.now after)) }
+{
+    match line {
+        Some(line) => own_line(alloc, desk, line, now),
+        None => usage(alloc),
+    }
+}
+
+/// Adds the line of this number to a batch, unless it has no words.
 fn add_line(
     alloc: Global,
-    batch: &mut Vec<Vec<String>>,
+    batch: &mut Vec<NumberedLine>,
     line: &str,
-    report: &mut Report,
+    number: usize,
 ) -> Result<(), AllocError>
     ensures { OnOk result
         (words_seen batch.new.items ≡ words_seen batch.old.items ++ worded (line.now ∷ [])) }
 {
     let words = words_of(alloc, line)?;
-    report.count_line();
     if !words.is_empty() {
-        batch.push(words)?;
-        report.expect()?;
+        batch.push(NumberedLine { number, words })?;
     }
     Ok(())
 }
 
-/// Adds a line to a batch; a full batch runs and is empty again.
+/// Adds the line of this number to a batch; a full batch runs and is empty again.
 fn take_line<S: Alter, W: Sink>(
     alloc: Global,
     desk: &mut Desk<S>,
-    batch: &mut Vec<Vec<String>>,
+    batch: &mut Vec<NumberedLine>,
     line: &str,
+    number: usize,
     sink: &mut W,
     report: &mut Report,
     now: u64,
@@ -211,7 +242,7 @@ fn take_line<S: Alter, W: Sink>(
         (λ before after. RanBut now before (words_seen batch.old.items ++ worded (line.now ∷ []))
         after (W.held sink.old) (W.held sink.new) (words_seen batch.new.items) result) }
 {
-    add_line(alloc, batch, line, report)?;
+    add_line(alloc, batch, line, number)?;
     if batch.len() < BATCH {
         return Ok(());
     }
@@ -236,8 +267,10 @@ fn run_lines<S: Alter, W: Sink>(
         (W.held sink.old) (W.held sink.new) result) }
 {
     let mut batch = Vec::new(alloc);
+    let mut number: usize = 0;
     for line in text.lines() {
-        take_line(alloc, desk, &mut batch, line, sink, report, now)?;
+        number = number.saturating_add(1);
+        take_line(alloc, desk, &mut batch, line, number, sink, report, now)?;
     }
     run_batch(alloc, desk, batch.as_slice(), sink, report, now)
 }

@@ -7,4 +7,4 @@ pub use dh_records::{
     DefaultRow, GrantRow, LangRow, PageRow, PassRow, ProjectRow, RedirectRow, RetryRow, RuleRow,
     VersionRow,
 };
-pub use tables::{Listed, Tables};
+pub use tables::{Listed, PageSize, Tables};

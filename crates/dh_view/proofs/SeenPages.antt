@@ -20,11 +20,17 @@ use Rattle.dh_records.specs.declared.records.PageRow.{PageRow}
 use Rattle.dh_records.specs.declared.records.ProjectRow.{ProjectRow}
 use Rattle.dh_records.specs.declared.records.RedirectRow.{RedirectRow}
 use Rattle.dh_records.proofs.KeyLemmas.{page_place}
+use Rattle.dh_tables.specs.Sizes.{size_of_row}
+use Rattle.dh_tables.specs.declared.tables.page_sizes.PageSize.{PageSize}
 use Rattle.dh_view.specs.Right.{pages_of}
-use Rattle.dh_view.specs.Stored.{page_of_row}
+use Rattle.dh_view.specs.Stored.{size_of_page}
 use Rattle.dh_view.specs.View.{shown_under, slug_if_seen}
 use Rattle.dh_view.proofs.OrderedRows.{entries_of}
 use Rattle.dh_view.proofs.Shown.{seen_in, unseen_in}
+
+-- the page of a record, as a project has it
+abbrev page_of_row : PageRow → StoredPage
+page_of_row x = record { lang = x.lang; slug = x.slug; path = x.path; page = x.page }
 
 -- ---- lists
 
@@ -154,7 +160,7 @@ module _ (lists : Lists) (o : Option Text) (c : Caller) (name lang : Text) where
   abbrev of_project : Option Project → List StoredPage
   of_project q = option_map_or in_lang (option_map (λ p. seen_project p c) q) []
 
-  pub pages_seen : (host own : Text) → o ≡ Some host → Some own ≡ slug_if_seen lists o c name → IsTrue (is_sorted page_cmp (pages_of lists host))
+  pages_seen : (host own : Text) → o ≡ Some host → Some own ≡ slug_if_seen lists o c name → IsTrue (is_sorted page_cmp (pages_of lists host))
       → map page_of_row (filter (is_page_in host own lang) lists.pages) ≡ option_map_or in_lang (shown_under lists o c) []
   pages_seen host own is e up =
       let found = seen_in lists o c name own e in
@@ -167,12 +173,28 @@ module _ (lists : Lists) (o : Option Text) (c : Caller) (name lang : Text) where
       some_same : {x y : Text} → Some x ≡ Some y → x ≡ y
       some_same e = cc
 
-  pub pages_unseen : None ≡ slug_if_seen lists o c name → [] ≡ option_map_or in_lang (shown_under lists o c) []
+  pages_unseen : None ≡ slug_if_seen lists o c name → [] ≡ option_map_or in_lang (shown_under lists o c) []
   pages_unseen e =
       elim (unseen_in lists o c name e) [
         | inl none ↦ ap of_project (sym none)
         | inr found ↦ sym (none_under lists found.0 c name lang found.2) ∙ ap of_project (sym found.1)
       ]
+
+  -- the same of their sizes
+  abbrev sizes_in_lang : SeenProject → List PageSize
+  sizes_in_lang p = map size_of_page (in_lang p)
+
+  sizes_of : (p : Option SeenProject) → map size_of_page (option_map_or in_lang p []) ≡ option_map_or sizes_in_lang p []
+  sizes_of None = refl
+  sizes_of (Some p) = refl
+
+  pub sizes_seen : (host own : Text) → o ≡ Some host → Some own ≡ slug_if_seen lists o c name → IsTrue (is_sorted page_cmp (pages_of lists host))
+      → map size_of_row (filter (is_page_in host own lang) lists.pages) ≡ option_map_or sizes_in_lang (shown_under lists o c) []
+  sizes_seen host own is e up =
+      sym (mapped page_of_row size_of_page (filter (is_page_in host own lang) lists.pages)) ∙ ap (map size_of_page) (pages_seen host own is e up) ∙ sizes_of (shown_under lists o c)
+
+  pub sizes_unseen : None ≡ slug_if_seen lists o c name → [] ≡ option_map_or sizes_in_lang (shown_under lists o c) []
+  sizes_unseen e = ap (map size_of_page) (pages_unseen e) ∙ sizes_of (shown_under lists o c)
 
 -- ---- the redirects
 

@@ -1,4 +1,4 @@
--- What the stored rows of a host tell: what names stand for, where its redirects lead, and its pages.
+-- What the stored rows of a host tell: what names stand for, where its redirects lead, and the sizes of its pages.
 use Rattle.std.specs.Prelude.{ℕ, Bool, true, not, ◌&&◌, ◌||◌, ◌==◌, nat_lt, if◌then◌else◌, List, [], ◌∷◌, filter, find, Option, Some, None, option_map, option_and_then}
 use Rattle.std.specs.Option.{option_or}
 use Rattle.dh_seen.specs.declared.seen_project.SeenProject.{SeenProject}
@@ -8,10 +8,11 @@ use Rattle.dh_redirects.specs.declared.redirect.Location.{Location}
 use Rattle.dh_redirects.specs.FirstResult.{result_in}
 use Rattle.dh_segments.specs.Segments.{first_segment}
 use Rattle.dh_tables.specs.Listing.{is_redirect_at}
+use Rattle.dh_tables.specs.Sizes.{page_size}
+use Rattle.dh_tables.specs.declared.tables.page_sizes.PageSize.{PageSize}
 use Rattle.dh_records.specs.Lists.{Lists, is_route_in}
 use Rattle.dh_records.specs.declared.records.AliasName.{AliasName}
 use Rattle.dh_records.specs.declared.records.AliasName.TheVariants.{Latest, Stable, Default}
-use Rattle.dh_records.specs.declared.records.PageRow.{PageRow}
 use Rattle.dh_records.specs.declared.records.RedirectRow.{RedirectRow}
 use Rattle.dh_records.specs.declared.records.RouteRow.{RouteRow}
 use Rattle.dh_world.specs.World.{Text}
@@ -24,9 +25,9 @@ stands_for Default p = p.«default»
 
 -- ---- pages
 
--- the page of a record, as a project has it
-abbrev pub page_of_row : PageRow → StoredPage
-page_of_row x = record { lang = x.lang; slug = x.slug; path = x.path; page = x.page }
+-- the size of a project's page
+abbrev pub size_of_page : StoredPage → PageSize
+size_of_page s = page_size s.path s.page
 
 -- ---- redirects
 

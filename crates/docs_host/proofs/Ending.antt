@@ -22,6 +22,9 @@ use Rattle.dh_lines.proofs.LineLemmas.{steady}
 use Rattle.dh_lines.specs.App.{docs_app}
 use Rattle.dh_lines.specs.declared.lines.Order.{Order}
 use Rattle.dh_lines.specs.declared.lines.Order.TheVariants as order
+use Rattle.dh_lines.specs.declared.lines.DeskOrder.{DeskOrder}
+use Rattle.dh_lines.specs.declared.lines.DeskOrder.TheVariants as desk
+use Rattle.dh_lines.specs.declared.lines.ProgramOrder.TheVariants as program
 use Rattle.dh_lists.specs.declared.lists.ListFault.{ListFault}
 use Rattle.dh_lists.specs.declared.lists.ListFault.TheVariants as listed
 use Rattle.dh_lists.specs.declared.lists.RecordFault.{RecordFault}
@@ -117,7 +120,7 @@ ran_all moment left held now after s it = (after, record { script = it.script; r
 ran_some : (moment : ℕ) (left held now : Option Text) (after : World) (f : Failure) → Ran moment left empty after held now (Err f) → EndsScript moment left held now Faulty
 ran_some moment left held now after f it = inr (after, record { script = it.script; read = it.read; ran = it.ran })
 
-script_in_memory : (f : Failure) → MayEnd is_of_script f → MayEnd (is_of_memory order.Script) f
+script_in_memory : (f : Failure) → MayEnd is_of_script f → MayEnd (is_of_memory (order.Program program.Script)) f
 script_in_memory (File fault) it = it
 script_in_memory (OfList fault) it = it
 script_in_memory Store it = refl
@@ -132,7 +135,7 @@ script_in_memory (Request fault) it = it
 pub script_ended
     : (moment : ℕ) (left held now : Option Text) (before after : World) (r : Result Status Failure)
     → before ≡ empty → Ran moment left before after held now r → IsDoneOr is_of_script r
-    → Ended (EndsScript moment left held now) (is_of_memory order.Script) r
+    → Ended (EndsScript moment left held now) (is_of_memory (order.Program program.Script)) r
 script_ended moment left held now before after (Ok status) none ran is = (
   subst (EndsScript moment left held now) (sym is)
       (ran_all moment left held now after status (subst (λ w. Ran moment left w after held now (Ok status)) none ran)),
@@ -147,26 +150,18 @@ script_ended moment left held now before after (Err failure) none ran is = (
 -- ---- over a file
 
 pub faulty_order : (o : Order) → IsTrue (may_end_order o Faulty)
-faulty_order (order.Act command) = refl
-faulty_order (order.Get host target pass own) = refl
-faulty_order (order.Import host list) = refl
-faulty_order (order.List word) = refl
-faulty_order (order.Init file) = refl
-faulty_order (order.Migrate file) = refl
-faulty_order order.Script = refl
-faulty_order order.Answer = refl
-faulty_order (order.Serve count port log wait) = refl
+faulty_order (order.Desk d) = refl
+faulty_order (order.File f) = refl
+faulty_order (order.Program program.Script) = refl
+faulty_order (order.Program program.Answer) = refl
+faulty_order (order.Program (program.Serve count port log wait)) = refl
 
 done_order : (o : Order) → IsTrue (may_end_order o Done)
-done_order (order.Act command) = refl
-done_order (order.Get host target pass own) = refl
-done_order (order.Import host list) = refl
-done_order (order.List word) = refl
-done_order (order.Init file) = refl
-done_order (order.Migrate file) = refl
-done_order order.Script = refl
-done_order order.Answer = refl
-done_order (order.Serve count port log wait) = refl
+done_order (order.Desk d) = refl
+done_order (order.File f) = refl
+done_order (order.Program program.Script) = refl
+done_order (order.Program program.Answer) = refl
+done_order (order.Program (program.Serve count port log wait)) = refl
 
 module _ (held now : Option Text) (o : Order) where
   -- each run may end with a fault
@@ -192,15 +187,11 @@ module _ (held now : Option Text) (o : Order) where
   no_control fault it = by o it
     where
       by : (o : Order) → IsTrue (is_of_order o (Control fault)) → IsTrue (may_be_sent o)
-      by (order.Act command) it = refl
-      by (order.Get host target pass own) it = refl
-      by (order.List word) it = refl
-      by (order.Import host list) it = refl
-      by (order.Init file) it = absurd (true≢false (sym it))
-      by (order.Migrate file) it = absurd (true≢false (sym it))
-      by order.Script it = refl
-      by order.Answer it = absurd (true≢false (sym it))
-      by (order.Serve count port log wait) it = absurd (true≢false (sym it))
+      by (order.Desk d) it = refl
+      by (order.File f) it = absurd (true≢false (sym it))
+      by (order.Program program.Script) it = refl
+      by (order.Program program.Answer) it = absurd (true≢false (sym it))
+      by (order.Program (program.Serve count port log wait)) it = absurd (true≢false (sym it))
 
   pub opened_sent : (f : Failure) → MayEnd (is_of_opened o) f → MayEnd (is_of_sent o) f
   opened_sent (File fault) it = refl
@@ -245,10 +236,10 @@ module _ (held now : Option Text) (o : Order) where
 
 -- ---- by the server of a file
 
-module _ (c : Command) where
-  single_sent : (f : Failure) → MayEnd is_of_single f → MayEnd (is_of_sent (order.Act c)) f
+module _ (d : DeskOrder) where
+  single_sent : (f : Failure) → MayEnd is_of_single f → MayEnd (is_of_sent (order.Desk d)) f
   single_sent (File fault) it = refl
-  single_sent (OfList fault) it = it
+  single_sent (OfList fault) it = absurd (true≢false (sym it))
   single_sent Store it = it
   single_sent Memory it = refl
   single_sent Bind it = it
@@ -258,23 +249,17 @@ module _ (c : Command) where
   single_sent (Script fault) it = it
   single_sent (Request fault) it = it
 
-  command_sent : (r : Result Status Failure) → Ended (λ s. IsTrue (may_end_single s)) is_of_single r
-      → Ended (λ s. IsTrue (may_end_order (order.Act c) s)) (is_of_sent (order.Act c)) r
-  command_sent (Ok s) it = it
-  command_sent (Err f) it = (it.0, single_sent f it.1)
+  desk_sent : (r : Result Status Failure) → Ended (λ s. IsTrue (may_end_single s)) is_of_single r
+      → Ended (λ s. IsTrue (may_end_order (order.Desk d) s)) (is_of_sent (order.Desk d)) r
+  desk_sent (Ok s) it = it
+  desk_sent (Err f) it = (it.0, single_sent f it.1)
 
 -- a command was sent
 pub act_sent : (o : Order) (r : Result Status Failure) → is_act o ≡ true → Ended (λ s. IsTrue (may_end_single s)) is_of_single r
     → Ended (λ s. IsTrue (may_end_order o s)) (is_of_sent o) r
-act_sent (order.Act command) r is it = command_sent command r it
-act_sent (order.Get host target pass own) r is it = absurd (true≢false (sym is))
-act_sent (order.Import host list) r is it = absurd (true≢false (sym is))
-act_sent (order.List word) r is it = absurd (true≢false (sym is))
-act_sent (order.Init file) r is it = absurd (true≢false (sym is))
-act_sent (order.Migrate file) r is it = absurd (true≢false (sym is))
-act_sent order.Script r is it = absurd (true≢false (sym is))
-act_sent order.Answer r is it = absurd (true≢false (sym is))
-act_sent (order.Serve count port log wait) r is it = absurd (true≢false (sym is))
+act_sent (order.Desk d) r is it = desk_sent d r it
+act_sent (order.File f) r is it = absurd (true≢false (sym is))
+act_sent (order.Program p) r is it = absurd (true≢false (sym is))
 
 -- what a list orders is a command
 pub list_orders_act : (host : Text) (bytes : List ℕ) (o : Order) → OrdersImport host bytes (Ok o) → is_act o ≡ true
@@ -298,7 +283,7 @@ output_fails Write it = refl
 output_fails (Script fault) it = it
 output_fails (Request fault) it = it
 
-act_fails : (c : Command) (f : Failure) → MayEnd (is_of_sent (order.Act c)) f → MayEnd is_of_command f
+act_fails : (c : Command) (f : Failure) → MayEnd (is_of_sent (order.Desk (desk.Act c))) f → MayEnd is_of_command f
 act_fails c (File fault) it = refl
 act_fails c (OfList fault) it = it
 act_fails c Store it = it
@@ -350,9 +335,9 @@ unlisted host bytes held = ((Err listed.Memory, tt, (refl, refl)), refl)
 
 module _ (host list : Text) (held now : Option Text) where
   abbrev EndsImport : Result Status Failure → Type 0
-  EndsImport r = Ended (EndsOver (order.Import host list) held now) (is_of_file (order.Import host list)) r
+  EndsImport r = Ended (EndsOver (order.Desk (desk.Import host list)) held now) (is_of_file (order.Desk (desk.Import host list))) r
 
-  command_may : (f : Failure) → MayEnd is_of_command f → MayEnd (is_of_file (order.Import host list)) f
+  command_may : (f : Failure) → MayEnd is_of_command f → MayEnd (is_of_file (order.Desk (desk.Import host list))) f
   command_may (File fault) it = refl
   command_may (OfList fault) it = refl
   command_may Store it = it

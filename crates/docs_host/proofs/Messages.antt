@@ -12,7 +12,8 @@ use Rattle.dh_histories.specs.CallsDone.{AreCallsDone, IsCallDone, outcome_of, o
 use Rattle.dh_lines.specs.Lines.{line_in}
 use Rattle.dh_lines.specs.declared.lines.Line.{Line}
 use Rattle.dh_lines.specs.declared.lines.Order.{Order}
-use Rattle.dh_lines.specs.declared.lines.Order.TheVariants as order
+use Rattle.dh_lines.specs.declared.lines.Order.TheVariants.{Desk, File, Program}
+use Rattle.dh_lines.specs.declared.lines.DeskOrder.TheVariants as desk
 use Rattle.dh_lines.specs.Lines.{asking}
 use Rattle.dh_lists.specs.Lists.{ReadsList}
 use Rattle.dh_lists.specs.declared.lists.ListFault.{ListFault}
@@ -60,26 +61,20 @@ module _ (before after : World) where
       one_done (Ask host pass moment (record { path = target.path; query = target.query })) (outcome_of_read it.0) (it.0, same, it.1, refl)
 
   performs : (moment : ℕ) (o : Order) (text : Text) (refused : Bool) → PerformsOrder moment before o after text refused → AreDone before (calls_of_order moment o) after
-  performs moment (order.Act command) text refused it = one_done (Act command) (outcome_of it.0) (it.0, it.1, refl)
-  performs moment (order.Get host target pass own) text refused it = gets host pass (unwrap_or own moment) (target_of target) text refused it.0 it.1
-  performs moment (order.Import host list) text refused it = ([], (it.0, refl))
-  performs moment (order.List word) text refused it = ([], (it.0, refl))
-  performs moment (order.Init file) text refused it = ([], (it.0, refl))
-  performs moment (order.Migrate file) text refused it = ([], (it.0, refl))
-  performs moment order.Script text refused it = ([], (it.0, refl))
-  performs moment order.Answer text refused it = ([], (it.0, refl))
-  performs moment (order.Serve count port log wait) text refused it = ([], (it.0, refl))
+  performs moment (Desk (desk.Act command)) text refused it = one_done (Act command) (outcome_of it.0) (it.0, it.1, refl)
+  performs moment (Desk (desk.Get host target pass own)) text refused it = gets host pass (unwrap_or own moment) (target_of target) text refused it.0 it.1
+  performs moment (Desk (desk.Import host list)) text refused it = ([], (it.0, refl))
+  performs moment (Desk (desk.List word)) text refused it = ([], (it.0, refl))
+  performs moment (File o) text refused it = ([], (it.0, refl))
+  performs moment (Program o) text refused it = ([], (it.0, refl))
 
   single : (moment : ℕ) (o : Order) (text : Text) (refused : Bool) → PerformsSingle moment before o after text refused → AreDone before (calls_of_order moment o) after
-  single moment (order.List word) text refused it = ([], (it.0, refl))
-  single moment (order.Act command) text refused it = performs moment (order.Act command) text refused it
-  single moment (order.Get host target pass own) text refused it = performs moment (order.Get host target pass own) text refused it
-  single moment (order.Import host list) text refused it = ([], (it.0, refl))
-  single moment (order.Init file) text refused it = ([], (it.0, refl))
-  single moment (order.Migrate file) text refused it = ([], (it.0, refl))
-  single moment order.Script text refused it = ([], (it.0, refl))
-  single moment order.Answer text refused it = ([], (it.0, refl))
-  single moment (order.Serve count port log wait) text refused it = ([], (it.0, refl))
+  single moment (Desk (desk.List word)) text refused it = ([], (it.0, refl))
+  single moment (Desk (desk.Act command)) text refused it = performs moment (Desk (desk.Act command)) text refused it
+  single moment (Desk (desk.Get host target pass own)) text refused it = performs moment (Desk (desk.Get host target pass own)) text refused it
+  single moment (Desk (desk.Import host list)) text refused it = ([], (it.0, refl))
+  single moment (File o) text refused it = ([], (it.0, refl))
+  single moment (Program o) text refused it = ([], (it.0, refl))
 
   may_single : (moment : ℕ) (o : Order) → MayDoSingle moment before o after → FrontIsDone before (calls_of_order moment o) after
   may_single moment o (inl same) = none_done before after (calls_of_order moment o) same

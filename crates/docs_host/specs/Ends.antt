@@ -18,6 +18,7 @@ use Rattle.dh_lines.specs.Lines.{line_in}
 use Rattle.dh_lines.specs.declared.lines.Line.{Line}
 use Rattle.dh_lines.specs.declared.lines.Order.{Order}
 use Rattle.dh_lines.specs.declared.lines.Order.TheVariants as order
+use Rattle.dh_lines.specs.declared.lines.ProgramOrder.TheVariants as program
 use Rattle.dh_lists.specs.declared.lists.ListFault.{ListFault}
 use Rattle.dh_lists.specs.declared.lists.ListFault.TheVariants as list
 use Rattle.dh_script.specs.Running.{RunsScript}
@@ -92,9 +93,9 @@ may_end_request Unanswered = true
 may_end_request status = may_end status
 
 abbrev pub may_end_order : Order → Status → Bool
-may_end_order order.Script status = may_end status
-may_end_order (order.Serve count port log wait) status = may_end status
-may_end_order order.Answer status = may_end_request status
+may_end_order (order.Program program.Script) status = may_end status
+may_end_order (order.Program (program.Serve count port log wait)) status = may_end status
+may_end_order (order.Program program.Answer) status = may_end_request status
 may_end_order _ status = may_end_single status
 
 -- ---- over a file, by this run or by the server that has it
@@ -129,11 +130,9 @@ EndsList host bytes held now status =
 
 -- without a file, a command, a read, a list, an import and a server are mistakes
 abbrev pub EndsWithoutFile : ℕ → Order → Option Text → Option Text → Option Text → Status → Type 0
-EndsWithoutFile moment order.Script left held now status = EndsScript moment left held now status
-EndsWithoutFile moment order.Answer left held now status = EndsRequest moment left held now status
-EndsWithoutFile moment (order.Init file) left held now status = (now ≡ held) × IsTrue (may_end status)
-EndsWithoutFile moment (order.Migrate file) left held now status =
-    (now ≡ held) × IsTrue (may_end status)
+EndsWithoutFile moment (order.Program program.Script) left held now status = EndsScript moment left held now status
+EndsWithoutFile moment (order.Program program.Answer) left held now status = EndsRequest moment left held now status
+EndsWithoutFile moment (order.File ordered) left held now status = (now ≡ held) × IsTrue (may_end status)
 EndsWithoutFile moment _ left held now status = (now ≡ held) × (status ≡ Usage)
 
 abbrev pub EndsBy : ℕ → Option Text → Order → Option Text → Option Text → Option Text → Status → Type 0

@@ -3,6 +3,9 @@ use Rattle.std.specs.Prelude.{◌≡◌, Bool, true, false, IsTrue, Option, Some
 use Rattle.dh_lines.specs.declared.lines.Line.{Line}
 use Rattle.dh_lines.specs.declared.lines.Order.{Order}
 use Rattle.dh_lines.specs.declared.lines.Order.TheVariants as order
+use Rattle.dh_lines.specs.declared.lines.DeskOrder.{DeskOrder}
+use Rattle.dh_lines.specs.declared.lines.DeskOrder.TheVariants.{Import}
+use Rattle.dh_lines.specs.declared.lines.ProgramOrder.TheVariants as program
 use Rattle.dh_world.specs.World.{Text}
 use Rattle.docs_host.specs.Orders.{has_bad_target}
 use Rattle.docs_host.specs.declared.lists.ListFileFault.TheVariants.{TooLong}
@@ -71,13 +74,22 @@ is_of_lines failure = is_of_script failure
 abbrev pub is_of_command : Failure → Bool
 is_of_command failure = is_of_single failure
 
+-- the order reads the file of a list
+abbrev pub is_import : DeskOrder → Bool
+is_import (Import host list) = true
+is_import ordered = false
+
+abbrev pub is_of_desk : Failure → DeskOrder → Bool
+is_of_desk (List fault) ordered = is_import ordered
+is_of_desk failure ordered = is_of_output failure
+
 -- a failure of an order over a desk
 abbrev pub is_of_order : Order → Failure → Bool
-is_of_order order.Script failure = is_of_script failure
-is_of_order order.Answer failure = is_of_request failure
-is_of_order (order.Serve count port log wait) failure = is_of_server failure
-is_of_order (order.Import host list) (List fault) = true
-is_of_order order failure = is_of_output failure
+is_of_order (order.Desk ordered) failure = is_of_desk failure ordered
+is_of_order (order.File ordered) failure = is_of_output failure
+is_of_order (order.Program program.Script) failure = is_of_script failure
+is_of_order (order.Program program.Answer) failure = is_of_request failure
+is_of_order (order.Program (program.Serve count port log wait)) failure = is_of_server failure
 
 -- a failure of an order over a file that this run opens
 abbrev pub is_of_opened : Order → Failure → Bool
@@ -86,12 +98,9 @@ is_of_opened order failure = is_of_order order failure
 
 -- the order is one that the server that has a file may be asked for
 abbrev pub may_be_sent : Order → Bool
-may_be_sent (order.Act command) = true
-may_be_sent (order.Get host target pass own) = true
-may_be_sent (order.Import host list) = true
-may_be_sent (order.List word) = true
-may_be_sent order.Script = true
-may_be_sent order = false
+may_be_sent (order.Desk ordered) = true
+may_be_sent (order.Program program.Script) = true
+may_be_sent ordered = false
 
 -- a failure of an order over a file that a server may have
 abbrev pub is_of_sent : Order → Failure → Bool
@@ -108,13 +117,12 @@ is_of_file order = is_of_checked (has_bad_target order) order
 
 -- a failure of an order without a file
 abbrev pub is_of_memory : Order → Failure → Bool
-is_of_memory order.Script Store = true
-is_of_memory order.Script failure = is_of_script failure
-is_of_memory order.Answer Store = true
-is_of_memory order.Answer failure = is_of_request failure
-is_of_memory (order.Init file) failure = is_of_init failure
-is_of_memory (order.Migrate file) failure = is_of_init failure
-is_of_memory order failure = false
+is_of_memory (order.Program program.Script) Store = true
+is_of_memory (order.Program program.Script) failure = is_of_script failure
+is_of_memory (order.Program program.Answer) Store = true
+is_of_memory (order.Program program.Answer) failure = is_of_request failure
+is_of_memory (order.File ordered) failure = is_of_init failure
+is_of_memory ordered failure = false
 
 abbrev pub is_of_run : Option Text → Order → Failure → Bool
 is_of_run None = is_of_memory

@@ -6,9 +6,11 @@ use Rattle.std.specs.Option.{option_map}
 use Rattle.dh_histories.specs.declared.call.Call.{Call}
 use Rattle.dh_http.specs.Answers.{AnswersSource, WritesAnswer}
 use Rattle.dh_http.specs.declared.fault.Done.{Done as Answered}
-use Rattle.dh_lines.specs.Lines.{asking}
+use Rattle.dh_lines.specs.Lines.{ordering}
 use Rattle.dh_lines.specs.declared.lines.Order.{Order}
-use Rattle.dh_lines.specs.declared.lines.Order.TheVariants as order
+use Rattle.dh_lines.specs.declared.lines.Order.TheVariants.{Desk, Program}
+use Rattle.dh_lines.specs.declared.lines.DeskOrder.TheVariants.{Act, Get}
+use Rattle.dh_lines.specs.declared.lines.ProgramOrder.TheVariants.{Script, Answer, Serve}
 use Rattle.dh_lists.specs.Lists.{ReadsList}
 use Rattle.dh_lists.specs.declared.lists.ListFault.{ListFault}
 use Rattle.dh_paths.specs.Targets.{target_of}
@@ -40,7 +42,7 @@ AreUnbroken input output = (input ≡ false) × (output ≡ false)
 
 -- a read whose target is none
 abbrev pub has_bad_target : Order → Bool
-has_bad_target (order.Get host target pass own) = is_none (target_of target)
+has_bad_target (Desk (Get host target pass own)) = is_none (target_of target)
 has_bad_target order = false
 
 abbrev pub single_status : Bool → Status
@@ -49,11 +51,11 @@ single_status false = Done
 
 -- the command that adds these redirects to those of a project
 abbrev pub import_order : Text → List Redirect → Order
-import_order host list = order.Act (asking host (ImportRedirects list))
+import_order host list = ordering host (ImportRedirects list)
 
 -- the order is a command
 abbrev pub is_act : Order → Bool
-is_act (order.Act command) = true
+is_act (Desk (Act command)) = true
 is_act order = false
 
 -- what an import of a list of these bytes into a project orders: the command that adds the list's redirects; or what is wrong
@@ -74,7 +76,7 @@ record_by change reason = None
 
 -- the record of an import that was refused, where a redirect was
 abbrev pub record_refused : Order → Reason → Option ℕ
-record_refused (order.Act command) reason = record_by command.change reason
+record_refused (Desk (Act command)) reason = record_by command.change reason
 record_refused order reason = None
 
 -- what is printed of a list whose record of this number writes no redirect
@@ -131,18 +133,8 @@ ServesUpTo gives first last most before after =
 -- an order was run: the lines of a script, whole or in part; a request, which was answered, whole or in part; connections, which
 -- did what `Serves` says of their count; or a single command, read or list
 abbrev pub RunsOrder : (ℕ → World → World → Type 0) → ℕ → World → Order → World → Option Text → Option Text → Option Text → Result Status Failure → Type 0
-RunsOrder Serves moment before order.Script after left held now result = RunsScript moment left before after held now result
-RunsOrder Serves moment before order.Answer after left held now result = RunsRequest moment before after left held now result
-RunsOrder Serves moment before (order.Serve count port log wait) after left held now result = Serves count before after
-RunsOrder Serves moment before (order.Act command) after left held now result =
-    IfOk result (RunsSingle moment before (order.Act command) after held now)
-RunsOrder Serves moment before (order.Get host target pass own) after left held now result =
-    IfOk result (RunsSingle moment before (order.Get host target pass own) after held now)
-RunsOrder Serves moment before (order.Import host list) after left held now result =
-    IfOk result (RunsSingle moment before (order.Import host list) after held now)
-RunsOrder Serves moment before (order.List word) after left held now result =
-    IfOk result (RunsSingle moment before (order.List word) after held now)
-RunsOrder Serves moment before (order.Init file) after left held now result =
-    IfOk result (RunsSingle moment before (order.Init file) after held now)
-RunsOrder Serves moment before (order.Migrate file) after left held now result =
-    IfOk result (RunsSingle moment before (order.Migrate file) after held now)
+RunsOrder Serves moment before (Program Script) after left held now result = RunsScript moment left before after held now result
+RunsOrder Serves moment before (Program Answer) after left held now result = RunsRequest moment before after left held now result
+RunsOrder Serves moment before (Program (Serve count port log wait)) after left held now result = Serves count before after
+RunsOrder Serves moment before order after left held now result =
+    IfOk result (RunsSingle moment before order after held now)

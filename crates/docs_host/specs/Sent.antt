@@ -1,12 +1,15 @@
 -- What a server is asked for that has the file, and how a run ends by its answers.
-use Rattle.std.specs.Prelude.{◌≡◌, ◌⊎◌, ℕ, Bool, true, false, IsTrue, List, [], ◌∷◌, Option, Some, None, Result, Ok, Err, IfSome, is_err}
+use Rattle.std.specs.Prelude.{◌≡◌, ◌⊎◌, ℕ, Bool, true, false, IsTrue, List, [], ◌∷◌, Option, Some, None, Result, Ok, Err, IfSome, is_err, ◌&&◌, if◌then◌else◌}
 use Rattle.std.specs.Io.KnownBytes.{Appends}
+use Rattle.std.specs.Str.{is_utf8}
 use Rattle.std.specs.Str.Lines.{lines}
 use Rattle.dh_ports.specs.Ports.{PutsFirst}
+use Rattle.dh_listings.specs.Terminal.{lines_steer_nothing}
 use Rattle.dh_world.specs.World.{Text}
 use Rattle.dh_files.specs.declared.fault.FileFault.TheVariants.{Busy}
 use Rattle.dh_lines.specs.declared.lines.Order.{Order}
-use Rattle.dh_lines.specs.declared.lines.Order.TheVariants as order
+use Rattle.dh_lines.specs.declared.lines.Order.TheVariants.{Program}
+use Rattle.dh_lines.specs.declared.lines.ProgramOrder.TheVariants as program
 use Rattle.dh_script.specs.Running.{is_filled, with_words, words_in}
 use Rattle.dh_script.specs.declared.fault.RunFault.TheVariants as run
 use Rattle.dh_script.specs.declared.fault.ScriptFault.{ScriptFault}
@@ -36,13 +39,24 @@ abbrev pub word_told : Bool → Text → Option Text
 word_told true word = Some word
 word_told false word = None
 
--- what is printed of an answer, and the word of its end; of an answer that was cut, its whole lines and no word
+-- what an answer has to print, and the word of its end; of an answer that was cut, its whole lines and no word
 abbrev pub parts_by : Text → Bool → Option (Text × Text) → Text × Option Text
 parts_by answer is_whole None = (whole_lines answer, None)
 parts_by answer is_whole (Some parts) = (parts.0, word_told is_whole parts.1)
 
 abbrev pub answer_parts : Text → Bool → Text × Option Text
 answer_parts answer is_whole = parts_by answer is_whole (cut answer)
+
+-- what is to be printed is a text that steers no terminal, as each answer of a server of this program is
+abbrev pub may_be_shown : Text → Bool
+may_be_shown printed = is_utf8 printed && lines_steer_nothing printed
+
+-- that is printed of it where it may be; of any other answer nothing, and there is no word
+unfoldable pub shown_if : Text × Option Text → Text × Option Text
+shown_if parts = if may_be_shown parts.0 then parts else ([], None)
+
+abbrev pub shown_parts : Text → Bool → Text × Option Text
+shown_parts answer is_whole = shown_if (answer_parts answer is_whole)
 
 -- the end that is read of an answer is the one that its word tells; without a word nobody knows the end
 abbrev pub EndIsRead : Option Text → Option (Result End ScriptFault) → Type 0
@@ -61,7 +75,7 @@ PrintsParts parts held now (Err (Silent silence)) = ⊥
 
 -- the answer was printed so; where nobody answered nothing was printed
 abbrev pub PrintsAnswer : Option (Text × Bool) → Option Text → Option Text → Result (Option (Result End ScriptFault)) Unheard → Type 0
-PrintsAnswer (Some answer) held now result = PrintsParts (answer_parts answer.0 answer.1) held now result
+PrintsAnswer (Some answer) held now result = PrintsParts (shown_parts answer.0 answer.1) held now result
 PrintsAnswer None held now (Err (Silent silence)) = now ≡ held
 PrintsAnswer None held now result = ⊥
 
@@ -180,7 +194,7 @@ SendsScript sent more name file left held now result =
 -- ---- an order
 
 abbrev pub SendsOrdered : Option (List Exchange) → Option (List Exchange) → List Text → Order → Text → Text → Option Text → Option Text → Option Text → Result Status Failure → Type 0
-SendsOrdered sent more words order.Script name file left held now result = SendsScript sent more name file left held now result
+SendsOrdered sent more words (Program program.Script) name file left held now result = SendsScript sent more name file left held now result
 SendsOrdered sent more words ordered name file left held now result = SendsWords sent more name file words held now result
 
 -- a run ended as its order may, or with a failure of a file that a server may have

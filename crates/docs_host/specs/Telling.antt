@@ -3,7 +3,10 @@ use Rattle.std.specs.Prelude.{◌≡◌, ⊤, Bool, IsTrue, [], ◌∷◌, ◌++
 use Rattle.dh_server.specs.Telling.{WritesUnlessBroken}
 use Rattle.dh_lines.specs.declared.lines.Line.{Line}
 use Rattle.dh_lines.specs.declared.lines.Order.{Order}
-use Rattle.dh_lines.specs.declared.lines.Order.TheVariants.{Import, Init, Migrate}
+use Rattle.dh_lines.specs.declared.lines.Order.TheVariants as order
+use Rattle.dh_lines.specs.declared.lines.DeskOrder.TheVariants.{Import}
+use Rattle.dh_lines.specs.declared.lines.FileOrder.TheVariants.{Init, Migrate}
+use Rattle.dh_listings.specs.Terminal.{shown}
 use Rattle.dh_world.specs.World.{Text}
 use Rattle.docs_host.specs.Ends.{status_after}
 use Rattle.docs_host.specs.Failing.{may_fail, is_of_line}
@@ -17,14 +20,14 @@ use Rattle.docs_host.specs.declared.failure.Status.TheVariants.{Faulty, Unanswer
 
 -- the file of the records
 abbrev pub file_in : Order → Option Text → Option Text
-file_in (Init file) store = Some file
-file_in (Migrate file) store = Some file
-file_in order store = store
+file_in (order.File (Init file)) store = Some file
+file_in (order.File (Migrate file)) store = Some file
+file_in ordered store = store
 
 -- the file of the list, where the failure is the list's; else the file of the records
 abbrev pub file_by : Failure → Order → Option Text → Option Text
-file_by (List fault) (Import host list) store = Some list
-file_by failure order store = file_in order store
+file_by (List fault) (order.Desk (Import host list)) store = Some list
+file_by failure ordered store = file_in ordered store
 
 abbrev pub file_of : Failure → Line → Option Text
 file_of failure line = file_by failure line.order line.store
@@ -42,9 +45,10 @@ file_named failure file = None
 abbrev pub name_text : Failure → Text
 name_text failure = codes "fault " ++ failure_name failure ++ 10 ∷ []
 
+-- the file, as a terminal may be shown it
 abbrev pub file_text : Option Text → Text
 file_text None = []
-file_text (Some file) = file ++ codes ": "
+file_text (Some file) = shown file ++ codes ": "
 
 -- the line for people
 abbrev pub cause_text : Option Text → Text → Text

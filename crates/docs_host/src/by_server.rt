@@ -16,7 +16,8 @@ use crate::sending::{Ask, Silence};
 use crate::streams::Streams;
 use dh_control::{End, cut, import_message, line_message, read_end, whole_lines, words_message};
 use dh_files::FileFault;
-use dh_lines::Order;
+use dh_lines::{Order, ProgramOrder};
+use dh_listings::lines_steer_nothing;
 use dh_ports::{Sink, Source, put_all};
 use dh_script::{MOST_SCRIPT_BYTES, Reason, RunFault, ScriptFault, has_words, read_script};
 use std::alloc::Global;
@@ -81,7 +82,7 @@ pub enum Unheard {
     Unwritten,
 }
 
-/// What is printed of an answer, and the word that tells its end. Where the answer was cut, its whole lines are printed, and
+/// What an answer has to print, and the word that tells its end. Where the answer was cut, its whole lines are printed, and
 /// there is no such word; nor is there where the answer was not read to its end.
 fn parts_of(answer: &[u8], is_whole: bool) -> (&[u8], Option<&[u8]>)
     ensures { (result.0.now, option_map (λ word. word.now) result.1)
@@ -94,6 +95,39 @@ fn parts_of(answer: &[u8], is_whole: bool) -> (&[u8], Option<&[u8]>)
     }
 }
 
+/// Whether what is to be printed of an answer is a text that steers no terminal.
+fn may_be_shown(printed: &[u8]) -> bool
+    ensures { result ≡ spec.may_be_shown printed.now }
+{
+    match str::from_utf8(printed) {
+        Ok(text) => lines_steer_nothing(text),
+        Err(_) => false,
+    }
+}
+
+/// What is printed where an answer has this to print, and the word that tells its end. An answer that steers a terminal is none of
+/// this program's: nothing of it is printed, and its end is not believed.
+#[tactic(auto, unfolding(crate::specs::Sent::shown_if))]
+fn shown_if<'a>(printed: &'a [u8], word: Option<&'a [u8]>) -> (&'a [u8], Option<&'a [u8]>)
+    ensures { (result.0.now, option_map (λ word. word.now) result.1)
+        ≡ spec.shown_if (printed.now, option_map (λ word. word.now) word.entry) }
+{
+    if may_be_shown(printed) {
+        (printed, word)
+    } else {
+        (&[], None)
+    }
+}
+
+/// What is printed of an answer, and the word that tells its end.
+fn shown_parts(answer: &[u8], is_whole: bool) -> (&[u8], Option<&[u8]>)
+    ensures { (result.0.now, option_map (λ word. word.now) result.1)
+        ≡ spec.shown_parts answer.now is_whole }
+{
+    let (printed, word) = parts_of(answer, is_whole);
+    shown_if(printed, word)
+}
+
 /// The end that the word of an answer tells, where it tells one.
 fn end_in(word: Option<&[u8]>) -> Option<Result<End, ScriptFault>>
     ensures { EndIsRead (option_map (λ word. word.now) word.entry) result }
@@ -104,18 +138,18 @@ fn end_in(word: Option<&[u8]>) -> Option<Result<End, ScriptFault>>
     }
 }
 
-/// Prints what an answer has to print, and reads how it ended.
+/// Prints what an answer has to print, where a terminal may be shown it, and reads how it ended.
 fn print_answer<W: Sink>(
     answer: &[u8],
     is_whole: bool,
     sink: &mut W,
 ) -> Result<Option<Result<End, ScriptFault>>, Unheard>
     requires { W.broken sink.old ≡ false }
-    ensures prints { spec.PrintsParts (spec.answer_parts answer.now is_whole)
+    ensures prints { spec.PrintsParts (spec.shown_parts answer.now is_whole)
         (W.held sink.old) (W.held sink.new) result }
     ensures broken { W.broken sink.new ≡ spec.is_unwritten result }
 {
-    let (printed, word) = parts_of(answer, is_whole);
+    let (printed, word) = shown_parts(answer, is_whole);
     match put_all(sink, printed) {
         Ok(()) => Ok(end_in(word)),
         Err(_) => Err(Unheard::Unwritten),
@@ -408,7 +442,7 @@ pub fn run_by_server<A: Ask, R: Source, W: Sink, E: Sink>(
         return Err(Failure::File(FileFault::Busy));
     };
     match order {
-        Order::Act(_) | Order::Get { .. } | Order::List(_) => run_words_by_server(
+        Order::Desk(_) => run_words_by_server(
             alloc,
             asker,
             words,
@@ -418,12 +452,12 @@ pub fn run_by_server<A: Ask, R: Source, W: Sink, E: Sink>(
             &mut streams.sink,
             &mut streams.errors,
         ),
-        Order::Script => run_script_by_server(alloc, asker, file, name.as_str(), streams),
-        Order::Import { .. }
-        | Order::Init { .. }
-        | Order::Migrate { .. }
-        | Order::Answer
-        | Order::Serve { .. } => Err(Failure::File(FileFault::Busy)),
+        Order::Program(ProgramOrder::Script) => {
+            run_script_by_server(alloc, asker, file, name.as_str(), streams)
+        }
+        Order::Program(ProgramOrder::Answer | ProgramOrder::Serve { .. }) | Order::File(_) => Err(
+            Failure::File(FileFault::Busy),
+        ),
     }
 }
 

@@ -13,6 +13,7 @@ use crate::lists::ListFileFault;
 use crate::socket::SocketFault;
 use dh_files::FileFault;
 use dh_http::EngineFault;
+use dh_listings::shown;
 use dh_ports::{Fault, Sink, Stop};
 use dh_sample::SampleFault;
 use dh_script::{Reason, Report, RunFault, ScriptFault};
@@ -254,7 +255,7 @@ fn tell_file<E: Sink>(errors: &mut E, file: Option<&str>)
         (file_text (option_map (λ name. name.now) file.entry)) }
 {
     if let Some(file) = file {
-        put(errors, file);
+        put(errors, shown(file));
         put(errors, ": ");
     }
 }

@@ -12,7 +12,8 @@ ghost use Rattle.docs_host.specs.Orders.{OrdersImport, bad_record};
 use crate::failure::{Failure, Status, put};
 use crate::orders::say;
 use crate::streams::Streams;
-use dh_lines::Order;
+use dh_lines::{DeskOrder, Order};
+use dh_listings::shown;
 use dh_lists::{ListFault, RecordFault, read_list};
 use dh_paths::Text;
 use dh_ports::{Intake, Port, Sink, Source, Stop};
@@ -125,10 +126,10 @@ pub fn read_list_file(rt: &HostRuntime, path: &str) -> Result<Vec<u8>, Failure>
 fn import_order(alloc: Global, host: &Text, list: Redirects) -> Result<Order, AllocError>
     ensures { IfOk result (λ order. order ≡ spec.import_order host.now list) }
 {
-    Ok(Order::Act(Command {
+    Ok(Order::Desk(DeskOrder::Act(Command {
         host: Text::copy_of(alloc, host.as_str())?,
         change: CommandChange::ImportRedirects { list },
-    }))
+    })))
 }
 
 /// Makes the command that adds the redirects of a list to those of a project, or tells the list's record that writes none.
@@ -158,6 +159,7 @@ pub fn refuse_record<R: Source, W: Sink, E: Sink>(
 {
     let text = format!(in alloc; "bad record {number}")?;
     say(&mut streams.sink, text.as_str())?;
+    let list = shown(list);
     let sentence = format!(in alloc; "docs_host: {list}: record {number}: {fault}\n")?;
     put(&mut streams.errors, sentence.as_str());
     Ok(Status::Refused)

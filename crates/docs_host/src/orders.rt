@@ -16,8 +16,8 @@ use crate::failure::{Failure, Status, tell_report};
 use crate::refusing::tell_refusal;
 use crate::serving::{Served, serve};
 use crate::streams::Streams;
-use dh_http::{Desk, Note, answer};
-use dh_lines::Order;
+use dh_http::{Desk, Heard, Note, answer};
+use dh_lines::{Order, ProgramOrder};
 use dh_ports::{Sink, Source, put_both};
 use dh_script::{Report, ScriptFault, perform_single, run_script};
 use sqlite::Alter;
@@ -124,7 +124,8 @@ fn answer_request<S: Alter, R: Source, W: Sink>(
         (W.held sink.old) (W.held sink.new) result) }
     ensures ends { Ended (λ status. IsTrue (may_end_request status)) is_of_request result }
 {
-    answer(alloc, desk, source, sink, now, &mut Note::nothing())?;
+    let (mut heard, mut note) = (Heard::new(alloc), Note::nothing());
+    answer(alloc, desk, source, sink, now, &mut heard, &mut note)?;
     Ok(Status::Done)
 }
 
@@ -150,7 +151,7 @@ pub fn do_order<S: Alter, C: FnMut() -> u64, R: Source, W: Sink, E: Sink>(
     ensures tells { TellsSome E.broken E.held streams.old.errors streams.new.errors }
 {
     match order {
-        Order::Script => run_lines(
+        Order::Program(ProgramOrder::Script) => run_lines(
             rt.alloc(),
             desk,
             &mut streams.source,
@@ -158,20 +159,17 @@ pub fn do_order<S: Alter, C: FnMut() -> u64, R: Source, W: Sink, E: Sink>(
             &mut streams.errors,
             now,
         ),
-        Order::Answer => answer_request(
+        Order::Program(ProgramOrder::Answer) => answer_request(
             rt.alloc(),
             desk,
             &mut streams.source,
             &mut streams.sink,
             now,
         ),
-        Order::Serve { count, log, .. } => { serve(rt, desk, served, clock, *count, *log, streams) }
-        Order::Act(_)
-        | Order::Get { .. }
-        | Order::Import { .. }
-        | Order::List(_)
-        | Order::Init { .. }
-        | Order::Migrate { .. } => do_single_order(
+        Order::Program(ProgramOrder::Serve { count, log, .. }) => {
+            serve(rt, desk, served, clock, *count, *log, streams)
+        }
+        Order::Desk(_) | Order::File(_) => do_single_order(
             rt.alloc(),
             desk,
             order,

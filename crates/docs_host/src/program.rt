@@ -21,7 +21,7 @@ use crate::serving::{Places, Served, bind_places, open_within, serve_rest, tell_
 use crate::streams::Streams;
 use crate::usage::{tell_help, tell_mistake, tell_version};
 use dh_files::{FileDesk, FileFault, close_desk, init_file, migrate_file, open_desk};
-use dh_lines::{Line, LineFault, Order, line_of};
+use dh_lines::{DeskOrder, FileOrder, Line, LineFault, Order, ProgramOrder, line_of};
 use dh_lists::ListFault;
 use dh_paths::Text;
 use dh_ports::{Sink, Source};
@@ -35,7 +35,7 @@ fn has_bad_target(alloc: Global, order: &Order) -> Result<bool, AllocError>
     ensures { IfOk result (λ bad. bad ≡ spec.has_bad_target order.now) }
 {
     match order {
-        Order::Get { target, .. } => is_bad_target(alloc, target),
+        Order::Desk(DeskOrder::Get { target, .. }) => is_bad_target(alloc, target),
         _ => Ok(false),
     }
 }
@@ -216,7 +216,7 @@ fn run_in_memory<R: Source, W: Sink, E: Sink>(
 ) -> Result<Status, Failure>
     requires ready { AreUnbroken (R.broken source.old) (W.broken sink.old) }
     ensures ends { Ended (EndsScript now (R.left source.old) (W.held sink.old) (W.held sink.new))
-        (is_of_memory Order.Script) result }
+        (is_of_memory (Order.Program ProgramOrder.Script)) result }
     ensures tells { TellsSome E.broken E.held errors.old errors.new }
 {
     let mut desk = empty_desk(alloc)?;
@@ -232,7 +232,7 @@ fn answer_over_sample<R: Source, W: Sink>(
 ) -> Result<Status, Failure>
     requires ready { AreUnbroken (R.broken source.old) (W.broken sink.old) }
     ensures { Ended (EndsRequest now (R.left source.old) (W.held sink.old) (W.held sink.new))
-        (is_of_memory Order.Answer) result }
+        (is_of_memory (Order.Program ProgramOrder.Answer)) result }
 {
     answer_sample(alloc, source, sink, now)?;
     Ok(Status::Done)
@@ -296,9 +296,9 @@ fn import<S: Start, C: FnMut() -> u64, R: Source, W: Sink, E: Sink>(
 ) -> Result<Status, Failure>
     requires callable { C.IsAlwaysCallable clock.old }
     requires ready { AreUnbroken (R.broken streams.old.source) (W.broken streams.old.sink) }
-    ensures ends { Ended (EndsOver (Order.Import host.now list.now)
+    ensures ends { Ended (EndsOver (Order.Desk (DeskOrder.Import host.now list.now))
         (W.held streams.old.sink) (W.held streams.new.sink))
-        (is_of_file (Order.Import host.now list.now)) result }
+        (is_of_file (Order.Desk (DeskOrder.Import host.now list.now))) result }
     ensures tells { TellsSome E.broken E.held streams.old.errors streams.new.errors }
 {
     let bytes = read_list_file(rt, list.as_str())?;
@@ -327,25 +327,25 @@ fn run_line<S: Start, C: FnMut() -> u64, R: Source, W: Sink, E: Sink>(
     ensures tells { TellsSome E.broken E.held streams.old.errors streams.new.errors }
 {
     match (&line.order, &line.store) {
-        (Order::Init { file }, None) => init(rt, start, file.as_str()),
-        (Order::Migrate { file }, None) => migrate(rt, start, file.as_str()),
-        (Order::Script, None) => run_in_memory(
+        (Order::File(FileOrder::Init { file }), None) => init(rt, start, file.as_str()),
+        (Order::File(FileOrder::Migrate { file }), None) => migrate(rt, start, file.as_str()),
+        (Order::Program(ProgramOrder::Script), None) => run_in_memory(
             rt.alloc(),
             &mut streams.source,
             &mut streams.sink,
             &mut streams.errors,
             now,
         ),
-        (Order::Answer, None) => answer_over_sample(
+        (Order::Program(ProgramOrder::Answer), None) => answer_over_sample(
             rt.alloc(),
             &mut streams.source,
             &mut streams.sink,
             now,
         ),
-        (Order::Import { host, list }, Some(file)) => {
+        (Order::Desk(DeskOrder::Import { host, list }), Some(file)) => {
             import(rt, start, host, list, file.as_str(), streams, clock, now)
         }
-        (Order::Serve { port, wait, .. }, Some(file)) => serve_file(
+        (Order::Program(ProgramOrder::Serve { port, wait, .. }), Some(file)) => serve_file(
             rt,
             start,
             &line.order,
@@ -366,14 +366,7 @@ fn run_line<S: Start, C: FnMut() -> u64, R: Source, W: Sink, E: Sink>(
             clock,
             now,
         ),
-        (
-            Order::Act(_)
-            | Order::Get { .. }
-            | Order::Import { .. }
-            | Order::List(_)
-            | Order::Serve { .. },
-            None,
-        ) => Ok(tell_usage(
+        (Order::Desk(_) | Order::Program(ProgramOrder::Serve { .. }), None) => Ok(tell_usage(
             &mut streams.errors,
             "which file has the records is missing: --store FILE",
         )),
@@ -459,8 +452,10 @@ fn file_of(line: &Line, failure: Failure) -> Option<&str>
     ensures { option_map (λ file. file.now) result ≡ telling.file_of failure line.now }
 {
     match (failure, &line.order, &line.store) {
-        (Failure::List(_), Order::Import { list, .. }, _) => Some(list.as_str()),
-        (_, Order::Init { file } | Order::Migrate { file }, _) => Some(file.as_str()),
+        (Failure::List(_), Order::Desk(DeskOrder::Import { list, .. }), _) => Some(list.as_str()),
+        (_, Order::File(FileOrder::Init { file } | FileOrder::Migrate { file }), _) => {
+            Some(file.as_str())
+        }
         (_, _, Some(file)) => Some(file.as_str()),
         (_, _, None) => None,
     }

@@ -6,7 +6,7 @@ ghost use Rattle.dh_server.specs.Telling.{TellsSome};
 ghost use Rattle.docs_host.specs.Orders as spec;
 
 use crate::failure::{put, tell_sentence};
-use dh_lines::Order;
+use dh_lines::{DeskOrder, Order};
 use dh_ports::Sink;
 use dh_redirects::Redirect;
 use dh_script::Reason;
@@ -42,11 +42,13 @@ fn record_refused(order: &Order, reason: Reason) -> Option<usize>
 {
     match (order, reason) {
         (
-            Order::Act(
-                Command {
-                    change: CommandChange::ImportRedirects { list },
-                    ..
-                },
+            Order::Desk(
+                DeskOrder::Act(
+                    Command {
+                        change: CommandChange::ImportRedirects { list },
+                        ..
+                    },
+                ),
             ),
             Reason::Refused(Refusal::BadRedirect(_)),
         ) => first_bad(list.as_slice()),

@@ -21,6 +21,7 @@ use crate::streams::Streams;
 use dh_control::{End, answer_message};
 use dh_files::{FileDesk, FileFault, close_desk, open_desk};
 use dh_http::{Desk, Refusal};
+use dh_listings::shown;
 use dh_ports::{Sink, Source, Stop};
 use dh_script::{Reason, RunFault, ScriptFault};
 use dh_server::{
@@ -70,6 +71,7 @@ pub struct Served<'a> {
 fn tell_served<E: Sink>(alloc: Global, file: &str, projects: i64, errors: &mut E)
     ensures { TellsSome E.broken E.held errors.old errors.new }
 {
+    let file = shown(file);
     if let Ok(line) = format!(in alloc; "docs_host: serving {file}, projects: {projects}\n") {
         put(errors, line.as_str());
     }
@@ -121,6 +123,7 @@ fn tell_port<W: Sink>(
 fn tell_again<E: Sink>(alloc: Global, file: &str, failed: Option<FileFault>, errors: &mut E)
     ensures { TellsSome E.broken E.held errors.old errors.new }
 {
+    let file = shown(file);
     let why = match failed {
         Some(FileFault::Full) => ", since the disk is full",
         _ => "",
@@ -402,6 +405,7 @@ fn serve_at<S: Alter, C: FnMut() -> u64, R: Source, W: Sink, E: Sink>(
 fn tell_without_socket<E: Sink>(alloc: Global, file: &str, errors: &mut E)
     ensures { TellsSome E.broken E.held errors.old errors.new }
 {
+    let file = shown(file);
     if let Ok(line) = format!(in alloc;
         "docs_host: {file}: with .control behind it this path has more than 107 bytes, too many for a control socket, so commands beside this server find the file busy; start it in the file's folder, and name the file alone\n"
     ) {
@@ -499,6 +503,7 @@ pub fn tell_waiting<E: Sink>(alloc: Global, file: &str, seconds: u32, errors: &m
     if seconds == 0 {
         return;
     }
+    let file = shown(file);
     if let Ok(line) = format!(in alloc;
         "docs_host: {file}: another program has it open; waiting for it, {seconds} seconds at most\n"
     ) {

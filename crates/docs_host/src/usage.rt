@@ -11,6 +11,7 @@ use crate::orders::say;
 use clap::error::ErrorKind;
 use clap::{ArgMatches, Error};
 use dh_lines::{docs_command, reads};
+use dh_listings::{lines_steer_nothing, shown};
 use dh_ports::{Sink, put_all};
 use std::alloc::{AllocError, Global};
 
@@ -47,7 +48,7 @@ fn tell_limit<E: Sink>(alloc: Global, id: &str, value: &str, values: &str, error
     put(errors, "  ");
     put(errors, id);
     put(errors, " '");
-    put(errors, value);
+    put(errors, shown(value));
     put(errors, "': it may be ");
     put(errors, values);
     put(errors, "\n");
@@ -91,6 +92,15 @@ fn with_program_name(alloc: Global, text: String) -> Result<String, AllocError> 
     }
 }
 
+/// Writes a text of `clap` on a mistake, which may have words as they were given; of words that steer a terminal no more than that.
+fn tell_text<E: Sink>(text: &str, errors: &mut E) {
+    if lines_steer_nothing(text) {
+        put(errors, text);
+    } else {
+        tell_usage(errors, "what is wrong with the words steers a terminal");
+    }
+}
+
 /// Writes the help that was asked for to standard output, and a mistake to standard error.
 fn tell_error<W: Sink, E: Sink>(
     alloc: Global,
@@ -108,7 +118,7 @@ fn tell_error<W: Sink, E: Sink>(
     }
     let text = with_program_name(alloc, format!(in alloc; "{error}")?)?;
     if kind != ErrorKind::DisplayHelp {
-        put(errors, text.as_str());
+        tell_text(text.as_str(), errors);
         return Ok(Status::Usage);
     }
     match put_all(sink, text.as_bytes()) {

@@ -1,7 +1,7 @@
 //! Lines as one list of calls of a desk.
 
 use dh_desk::{Call, Desk};
-use dh_lines::{Order, line_of};
+use dh_lines::{DeskOrder, Order, line_of};
 use dh_paths::{Target, Text};
 use dh_script::outcome_text;
 use dh_wire::Read;
@@ -34,13 +34,15 @@ fn read_of(alloc: Global, target: &Text) -> Option<Read> {
 /// The call that an order is, if it is one. A read that gives no moment of its own is one of the first.
 fn call_of(alloc: Global, order: Order) -> Option<Call> {
     match order {
-        Order::Act(command) => Some(Call::Act(command)),
-        Order::Get {
-            host,
-            target,
-            pass,
-            moment,
-        } => {
+        Order::Desk(DeskOrder::Act(command)) => Some(Call::Act(command)),
+        Order::Desk(
+            DeskOrder::Get {
+                host,
+                target,
+                pass,
+                moment,
+            },
+        ) => {
             let asked = read_of(alloc, &target)?;
             Some(Call::Ask {
                 host,

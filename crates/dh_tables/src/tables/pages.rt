@@ -1,6 +1,6 @@
 //! The calls on pages.
 
-ghost use Rattle.std.specs.Prelude.{◌≡◌, option_map, Some, None, IfSome, filter, find, is_some};
+ghost use Rattle.std.specs.Prelude.{◌≡◌, option_map, Some, None, IfSome, filter, find, is_some, map};
 ghost use Rattle.dh_page_cache.specs.Keys.{key_texts};
 ghost use Rattle.dh_rows.specs.Calls.{IsHonest, seen_now};
 ghost use Rattle.dh_schema.specs.Calling.{ReadsValue, ReadsAll, ChangesLists};
@@ -8,8 +8,9 @@ ghost use Rattle.dh_records.specs.Changes as change;
 ghost use Rattle.dh_records.specs.Lists as spec;
 ghost use Rattle.dh_schema.specs.Tables.{lists_of};
 ghost use Rattle.dh_tables.specs.Pages.{page_under};
+ghost use Rattle.dh_tables.specs.Sizes.{size_of_row};
 
-use super::Tables;
+use super::{PageSize, Tables};
 use dh_page_cache::PageKey;
 use dh_paths::{HostName, Lang, Slug};
 use dh_ports::{Fault, Found};
@@ -156,18 +157,19 @@ impl<S: Alter> Tables<S> {
         self.has_stored_page(host, slug, lang, path)
     }
 
-    /// The pages of the version whose slug is this text, in the language that is this text, by path.
-    pub fn pages_in(
+    /// The sizes of the pages of the version whose slug is this text, in the language that is this text, by path. One page is held
+    /// at a time.
+    pub fn page_sizes_in(
         &mut self,
         alloc: Global,
         host: &HostName,
         slug: &str,
         lang: &str,
-    ) -> Result<Vec<PageRow>, Fault>
-        ensures { ReadsAll S.Store self.old self.new result
-            (λ l. filter (spec.is_page_in host.now slug.now lang.now) l.pages) }
+    ) -> Result<Vec<PageSize>, Fault>
+        ensures { ReadsAll S.Store self.old self.new result (λ l. map size_of_row
+            (filter (spec.is_page_in host.now slug.now lang.now) l.pages)) }
     {
-        self.all_records(
+        self.page_sizes(
             alloc,
             "SELECT host, slug, lang, path, media, body FROM page WHERE host = ?1 AND slug = ?2 AND lang = ?3 ORDER BY host, slug, lang, path",
             params![host.as_str(), slug, lang],

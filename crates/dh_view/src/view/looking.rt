@@ -1,6 +1,6 @@
 //! The looks of a view. Each fact that a view remembers is asked of the tables where it is not remembered yet.
 
-ghost use Rattle.std.specs.Prelude.{◌≡◌, ◌↔◌, ◌&&◌, IfOk, IfSome, IsTrue, OnOk, filter, is_some, slice_get};
+ghost use Rattle.std.specs.Prelude.{◌≡◌, ◌↔◌, ◌&&◌, IfOk, IfSome, IsTrue, OnOk, filter, is_some, map, slice_get};
 ghost use Rattle.std.specs.Str.{bytes_eq};
 ghost use Rattle.std.proofs.Common.{◌∙◌, refl};
 ghost use Rattle.sqlite.specs.Held.{Held};
@@ -10,7 +10,7 @@ ghost use Rattle.dh_seen.specs.SeenProject.{alias_of, alias_to};
 ghost use Rattle.dh_redirects.specs.FirstResult.{first_result};
 ghost use Rattle.dh_schema.specs.Calling.{HasRecords, IsSettled};
 ghost use Rattle.dh_view.specs.Remembered.{IsSeen};
-ghost use Rattle.dh_view.specs.Stored.{stands_for};
+ghost use Rattle.dh_view.specs.Stored.{size_of_page, stands_for};
 ghost use Rattle.dh_view.specs.View as view;
 ghost use Rattle.dh_view.specs.View.{LooksUp, doubt_of, fails_on, honest_none, honest_on, host_in, looks_none, looks_on, meaning_of};
 
@@ -21,7 +21,8 @@ use dh_ports::{Fault, Found};
 use dh_records::{AliasName, LangRow, RedirectRow};
 use dh_redirects::{Asked, Location, Redirect};
 use dh_reply::Lookup;
-use dh_seen::{Items, Named, Page, StoredPage};
+use dh_seen::{Items, Named, Page};
+use dh_tables::PageSize;
 use dh_versions::Version;
 use sqlite::Alter;
 use std::alloc::{AllocError, Global};
@@ -285,21 +286,22 @@ impl<'a, S: Alter> View<'a, S> {
         }
     }
 
-    /// The pages of a version in a language, by path; none of a version that the caller does not see.
-    pub fn seen_pages(
+    /// The sizes of the pages of a version in a language, by path; none of a version that the caller does not see.
+    pub fn seen_page_sizes(
         &mut self,
         alloc: Global,
         slug: &Slug,
         lang: &Lang,
-    ) -> Result<Vec<StoredPage>, Fault>
+    ) -> Result<Vec<PageSize>, Fault>
         ensures asks { IsLook (meaning_of S.Store) self.old self.new result }
         ensures value { AnswersAll (meaning_of S.Store) self.old self.new result
-            (λ p. filter (λ s. bytes_eq s.slug slug.now && bytes_eq s.lang lang.now) p.pages) }
+            (λ p. map size_of_page
+            (filter (λ s. bytes_eq s.slug slug.now && bytes_eq s.lang lang.now) p.pages)) }
     {
         let text = slug.as_str();
         match self.seen_slug(alloc, text)? {
             Some(own) => match &self.host {
-                Some(host) => HostView::new(alloc, host, &self.caller.pass).pages_in(
+                Some(host) => HostView::new(alloc, host, &self.caller.pass).page_sizes_in(
                     self.tables,
                     &own,
                     lang,

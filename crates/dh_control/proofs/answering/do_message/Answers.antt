@@ -1,11 +1,14 @@
-use Rattle.std.proofs.Common.{None, Some, refl}
 use Rattle.dh_desk.proofs.Moving.{WorldGoesBy-refl, WorldGoesBy-weaker}
-use Rattle.dh_control.proofs.Whole.{message_done}
+use Rattle.dh_control.specs.Notes.{IsSubjectIn}
+use Rattle.dh_control.proofs.Means.{noted_so}
 use Rattle.dh_control.proofs.answering.do_message.Goals as goal
 
-pub returns-in-Some-clause-does : goal.returns-in-Some-clause-does
-returns-in-Some-clause-does g c =
-    WorldGoesBy-weaker c.do_body.ensures.does (λ u v. message_done c.args.now u v _ _ c.do_body.result c.args.file.now c.args.message.now (Some c.in-Some.body.now) c.in-Some.ensures)
+pub returns-in-Ok-clause-does : goal.returns-in-Ok-clause-does
+returns-in-Ok-clause-does g c = WorldGoesBy-weaker c.do_asked.ensures.does (λ u v did. c.in-Ok.ensures.0 c.args.now u v _ _ c.do_asked.result did)
 
-pub returns-in-None-clause-does : goal.returns-in-None-clause-does
-returns-in-None-clause-does g c = WorldGoesBy-refl (λ w. message_done c.args.now w w _ _ _ c.args.file.now c.args.message.now None c.in-None.ensures (refl, refl, refl))
+pub returns-in-Ok-clause-noted : goal.returns-in-Ok-clause-noted
+returns-in-Ok-clause-noted g c =
+    noted_so c.noted_of.result c.in-Ok.asked (IsSubjectIn c.args.file.now c.args.message.now) c.in-Ok.ensures.1 c.noted_of.ensures.noted
+
+pub returns-in-Err-clause-does : goal.returns-in-Err-clause-does
+returns-in-Err-clause-does g c = WorldGoesBy-refl (λ w. c.in-Err.ensures c.args.now w _)

@@ -1,8 +1,8 @@
 use Rattle.std.proofs.Common.{◌≡◌, map, take}
 use Rattle.dh_word_tables.specs.Apps.{with_apps}
-use Rattle.dh_lines.specs.Forms.{store_app_of}
+use Rattle.dh_lines.specs.Forms.{app_of_form}
 use Rattle.dh_lines.proofs.app.with_forms.Given as goal
 
 abbrev pub invariant-loop-form : goal.invariant-loop-form
 invariant-loop-form l =
-    l.program ≡ with_apps l.fn.program (map store_app_of (take l.form-index l.forms))
+    l.program ≡ with_apps l.fn.program (map app_of_form (take l.form-index l.forms))

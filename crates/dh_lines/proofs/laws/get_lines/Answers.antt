@@ -4,13 +4,15 @@ use Rattle.clap.specs.Faults.{defaults_fault}
 use Rattle.dh_word_tables.proofs.TokenLemmas.{chosen, written}
 use Rattle.clap.specs.Walk.{Text}
 use Rattle.dh_lines.specs.declared.lines.Order.{Order}
-use Rattle.dh_lines.specs.declared.lines.Order.TheVariants.{Get}
+use Rattle.dh_lines.specs.declared.lines.Order.TheVariants.{Desk}
+use Rattle.dh_lines.specs.declared.lines.DeskOrder.TheVariants.{Get}
 use Rattle.dh_lines.proofs.FormLines.{form_line, read_line}
 use Rattle.dh_lines.proofs.laws.get_lines.Goals as goal
 
 -- the read of these words, by what its moment reads as
 abbrev reading : Text → Text → Option Text → Option ℕ → Option Order
-reading host target pass moment = option_map (Get host target pass) (option_map Some moment)
+reading host target pass moment =
+    option_map (λ moment. Desk (Get host target pass moment)) (option_map Some moment)
 
 pub returns : goal.returns
 unfolding defaults_fault

@@ -5,21 +5,20 @@ use Rattle.dh_word_tables.proofs.TokenLemmas.{chosen}
 use Rattle.dh_listings.specs.declared.words.ListWord.TheVariants.{Projects, OfProject}
 use Rattle.dh_listings.specs.declared.words.ProjectList.{ProjectList}
 use Rattle.dh_listings.specs.declared.words.ProjectList.TheVariants.{Langs, Versions, Defaults, Rules, Redirects, Passes}
-use Rattle.dh_lines.specs.Lines.{OrdersList}
-use Rattle.dh_lines.specs.declared.lines.Order.TheVariants as order
+use Rattle.dh_lines.specs.Lines.{listing, OrdersList}
 use Rattle.dh_lines.proofs.FormLines.{form_line, ReadsAs}
 use Rattle.dh_lines.proofs.laws.list_lines.Goals as goal
 
 -- `NAME HOST` lists what it reads as
 list_line : (name : Text) (list : ProjectList)
-    → ((host : Text) → ReadsAs name (chosen host ∷ []) (Some (order.List (OfProject host list))))
+    → ((host : Text) → ReadsAs name (chosen host ∷ []) (Some (listing (OfProject host list))))
     → OrdersList name list
 list_line name list reads host plain = form_line name (chosen host ∷ []) _ (plain, tt) (reads host)
 
 pub returns : goal.returns
 unfolding defaults_fault
 returns c = record {
-  projects = form_line (codes "list-projects") [] (order.List Projects) tt (refl, λ file. refl);
+  projects = form_line (codes "list-projects") [] (listing Projects) tt (refl, λ file. refl);
   langs = list_line (codes "list-langs") Langs (λ host. (refl, λ file. refl));
   versions = list_line (codes "list-versions") Versions (λ host. (refl, λ file. refl));
   defaults = list_line (codes "list-defaults") Defaults (λ host. (refl, λ file. refl));

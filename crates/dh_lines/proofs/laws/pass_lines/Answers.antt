@@ -3,12 +3,12 @@ use Rattle.std.specs.Prelude.{option_map}
 use Rattle.clap.specs.Faults.{defaults_fault}
 use Rattle.dh_word_tables.proofs.TokenLemmas.{chosen, written}
 use Rattle.dh_world.specs.declared.command.CommandChange.TheVariants.{AddPass, DropPass}
-use Rattle.dh_lines.specs.Lines.{change_in, access_in}
+use Rattle.dh_lines.specs.Lines.{change_in}
 use Rattle.dh_lines.proofs.FormLines.{acting, form_line, read_line, word_line}
 use Rattle.dh_lines.proofs.laws.pass_lines.Goals as goal
 
 pub returns : goal.returns
-unfolding defaults_fault change_in access_in
+unfolding defaults_fault change_in
 returns c = record {
   add_pass = word_line (codes "add-pass") (λ pass. AddPass pass None)
       (λ host pass. (refl, λ file. refl));

@@ -3,7 +3,7 @@ use Rattle.clap.specs.Faults.{defaults_fault}
 use Rattle.clap.specs.Walk.{Text}
 use Rattle.dh_word_tables.specs.Words.{ArePlain}
 use Rattle.dh_word_tables.proofs.TokenLemmas.{Token, chosen, written}
-use Rattle.dh_lines.specs.Lines.{OrdersLine, change_in, access_in}
+use Rattle.dh_lines.specs.Lines.{OrdersLine, change_in}
 use Rattle.dh_lines.specs.declared.lines.Order.{Order}
 use Rattle.dh_lines.proofs.FormLines.{form_line, ReadsAs}
 use Rattle.dh_lines.proofs.laws.project_lines.Goals as goal
@@ -20,7 +20,7 @@ fourth_line name word order reads a b c d plain =
     form_line name (fourth word a b c d) (order a b c d) plain (reads a b c d)
 
 pub returns : goal.returns
-unfolding defaults_fault change_in access_in
+unfolding defaults_fault change_in
 returns c = record {
   new_public = fourth_line (codes "new-project") (codes "public") _
       (λ host lang branch wkey. (refl, λ file. refl));

@@ -9,27 +9,27 @@ use Rattle.dh_word_tables.specs.Words.{is_plain_word}
 use Rattle.dh_word_tables.proofs.TokenLemmas.{written}
 use Rattle.dh_redirects.specs.Redirects.{redirect_kind_of}
 use Rattle.dh_lines.specs.Lines.{OrdersRedirect, OrdersForced}
-use Rattle.dh_lines.specs.Lines.{change_in, access_in, redirect_change_in}
+use Rattle.dh_lines.specs.Lines.{change_in}
 use Rattle.dh_lines.proofs.FormLines.{redirect_line, place_line}
 use Rattle.dh_lines.proofs.laws.redirect_lines.Goals as goal
 
 unforced : (word : Text) (kind : RedirectKind) → is_plain_word word ≡ true
     → redirect_kind_of word ≡ Some kind → OrdersRedirect word kind
-unfolding defaults_fault change_in access_in redirect_change_in
+unfolding defaults_fault change_in
 unforced =
     redirect_line [] false (λ host place kind status source target plain. plain)
     (λ host place kind status source target. (refl, λ file. refl))
 
 forced : (word : Text) (kind : RedirectKind) → is_plain_word word ≡ true
     → redirect_kind_of word ≡ Some kind → OrdersForced word kind
-unfolding defaults_fault change_in access_in redirect_change_in
+unfolding defaults_fault change_in
 forced =
     redirect_line (written (codes "--force") ∷ []) true
     (λ host place kind status source target plain. plain)
     (λ host place kind status source target. (refl, λ file. refl))
 
 pub returns : goal.returns
-unfolding defaults_fault change_in access_in redirect_change_in
+unfolding defaults_fault change_in
 returns c = record {
   page = unforced (codes "page") Page refl refl;
   exact = unforced (codes "exact") Exact refl refl;

@@ -2,12 +2,12 @@ use Rattle.std.proofs.Common.{codes, refl}
 use Rattle.clap.specs.Faults.{defaults_fault}
 use Rattle.dh_rules.specs.declared.rule.Action.TheVariants as action
 use Rattle.dh_world.specs.declared.command.CommandChange.TheVariants.{DropRule}
-use Rattle.dh_lines.specs.Lines.{change_in, access_in, redirect_change_in, rule_change_in}
+use Rattle.dh_lines.specs.Lines.{change_in}
 use Rattle.dh_lines.proofs.FormLines.{rule_line, place_line}
 use Rattle.dh_lines.proofs.laws.rule_lines.Goals as goal
 
 pub returns : goal.returns
-unfolding defaults_fault change_in access_in redirect_change_in rule_change_in
+unfolding defaults_fault change_in
 returns c = record {
   activate = rule_line (codes "activate") action.Activate refl refl;
   hide = rule_line (codes "hide") action.Hide refl refl;

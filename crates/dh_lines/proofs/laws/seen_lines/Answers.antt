@@ -4,15 +4,15 @@ use Rattle.clap.specs.Faults.{defaults_fault}
 use Rattle.clap.specs.Walk.{Text}
 use Rattle.dh_word_tables.proofs.TokenLemmas.{chosen, written}
 use Rattle.dh_listings.specs.declared.words.ListWord.TheVariants.{Seen}
+use Rattle.dh_lines.specs.Lines.{listing}
 use Rattle.dh_lines.specs.declared.lines.Order.{Order}
-use Rattle.dh_lines.specs.declared.lines.Order.TheVariants as order
 use Rattle.dh_lines.proofs.FormLines.{form_line, read_line}
 use Rattle.dh_lines.proofs.laws.seen_lines.Goals as goal
 
 -- the list of these words, by what its moment reads as
-abbrev listing : Text → Option Text → Option ℕ → Option Order
-listing host pass moment =
-    option_map (λ moment. order.List (Seen host pass moment)) (option_map Some moment)
+abbrev seeing : Text → Option Text → Option ℕ → Option Order
+seeing host pass moment =
+    option_map (λ moment. listing (Seen host pass moment)) (option_map Some moment)
 
 pub returns : goal.returns
 unfolding defaults_fault
@@ -27,10 +27,10 @@ returns c = record {
   moment = λ host now moment plain is_moment.
       read_line (codes "list-seen")
       (chosen host ∷ written (codes "--now") ∷ chosen now ∷ []) _ _ plain
-      (refl, λ file. refl) (ap (listing host None) is_moment);
+      (refl, λ file. refl) (ap (seeing host None) is_moment);
   both = λ host pass now moment plain is_moment.
       read_line (codes "list-seen")
       (chosen host ∷ written (codes "--pass") ∷ chosen pass ∷ written (codes "--now") ∷ chosen now
       ∷ []) _ _ plain
-      (refl, λ file. refl) (ap (listing host (Some pass)) is_moment);
+      (refl, λ file. refl) (ap (seeing host (Some pass)) is_moment);
 }

@@ -6,7 +6,8 @@ use Rattle.clap.specs.Walk.{Text}
 use Rattle.dh_word_tables.proofs.TokenLemmas.{Token, chosen, written}
 use Rattle.dh_lines.specs.Lines.{as_line}
 use Rattle.dh_lines.specs.declared.lines.Line.{Line}
-use Rattle.dh_lines.specs.declared.lines.Order.TheVariants.{Serve}
+use Rattle.dh_lines.specs.declared.lines.Order.TheVariants.{Program}
+use Rattle.dh_lines.specs.declared.lines.ProgramOrder.TheVariants.{Serve}
 use Rattle.dh_lines.proofs.FormLines.{words_line, naming}
 use Rattle.dh_lines.proofs.laws.serve_lines.Goals as goal
 
@@ -14,7 +15,7 @@ use Rattle.dh_lines.proofs.laws.serve_lines.Goals as goal
 abbrev serving : Text → Bool → Option ℕ → Option ℕ → Option ℕ → Option (Option Line)
 serving file log wait port count =
     Some (option_map (as_line (Some file))
-    (option_and_then (λ count. option_and_then (λ port. option_map (Serve count port log) wait) port) count))
+    (option_and_then (λ count. option_and_then (λ port. option_map (λ wait. Program (Serve count port log wait)) wait) port) count))
 
 -- `--count N`
 abbrev counting : Text → List Token

@@ -6,11 +6,9 @@ use Rattle.dh_world.specs.declared.command.CommandChange.TheVariants.{Upload}
 use Rattle.dh_word_tables.proofs.TokenLemmas.{Token, chosen, written, text_of, Fits}
 use Rattle.dh_word_tables.proofs.TokenLemmas.{tokens_level, tokens_rows}
 use Rattle.dh_lines.specs.App.{upload_app}
-use Rattle.dh_lines.specs.Lines.{OrdersLine, as_line, asking, one_page, named_line}
-use Rattle.dh_lines.specs.Lines.{change_in, access_in}
+use Rattle.dh_lines.specs.Lines.{OrdersLine, as_line, ordering, one_page, named_line, change_in}
 use Rattle.dh_lines.specs.declared.lines.Line.{Line}
 use Rattle.dh_lines.specs.declared.lines.Order.{Order}
-use Rattle.dh_lines.specs.declared.lines.Order.TheVariants.{Act}
 use Rattle.dh_lines.proofs.FormLines.{form_line, in_steps, stored, line_by, naming}
 use Rattle.dh_lines.proofs.laws.upload_lines.Goals as goal
 
@@ -44,10 +42,10 @@ replacing = written (codes "--replace") ∷ []
 
 abbrev ordered : (replace : Bool) (host wkey key slug lang path media body : Text) → Order
 ordered replace host wkey key slug lang path media body =
-    Act (asking host (Upload wkey key slug lang replace (one_page path media body)))
+    ordering host (Upload wkey key slug lang replace (one_page path media body))
 
 pub returns : goal.returns
-unfolding defaults_fault change_in access_in
+unfolding defaults_fault change_in
 returns c = record {
   upload = λ host wkey key slug lang path media body plain.
       uploading (map chosen (host ∷ wkey ∷ key ∷ slug ∷ lang ∷ path ∷ media ∷ body ∷ []))

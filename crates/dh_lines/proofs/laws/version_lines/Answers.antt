@@ -3,12 +3,12 @@ use Rattle.clap.specs.Faults.{defaults_fault}
 use Rattle.dh_world.specs.declared.command.CommandChange.TheVariants.{Activate, Deactivate, Hide}
 use Rattle.dh_world.specs.declared.command.CommandChange.TheVariants.{Unhide, Publish, MakePrivate}
 use Rattle.dh_world.specs.declared.command.CommandChange.TheVariants.{Gone, SetDefault}
-use Rattle.dh_lines.specs.Lines.{change_in, access_in, redirect_change_in, rule_change_in}
+use Rattle.dh_lines.specs.Lines.{change_in}
 use Rattle.dh_lines.proofs.FormLines.{word_line}
 use Rattle.dh_lines.proofs.laws.version_lines.Goals as goal
 
 pub returns : goal.returns
-unfolding defaults_fault change_in access_in redirect_change_in rule_change_in
+unfolding defaults_fault change_in
 returns c = record {
   activate = word_line (codes "activate") Activate (λ host slug. (refl, λ file. refl));
   deactivate = word_line (codes "deactivate") Deactivate (λ host slug. (refl, λ file. refl));

@@ -4,20 +4,20 @@ use Rattle.dh_script.proofs.RunLemmas.{on_err}
 use Rattle.dh_script.proofs.ScriptLemmas.{may_single}
 use Rattle.dh_script.proofs.orders.perform_single.Goals as goal
 
-pub returns-in-List-clause-performs : goal.returns-in-List-clause-performs
-returns-in-List-clause-performs g c = WorldGoesBy-weaker c.list.ensures.lists (λ u v it. search (rules, it))
+pub returns-in-Desk-List-clause-performs : goal.returns-in-Desk-List-clause-performs
+returns-in-Desk-List-clause-performs g c = WorldGoesBy-weaker c.list.ensures.lists (λ u v it. search (rules, it))
 
-pub returns-in-List-clause-why : goal.returns-in-List-clause-why
-returns-in-List-clause-why g c = WorldGoesBy-weaker c.list.ensures.why (λ u v it. search (rules, it))
+pub returns-in-Desk-List-clause-why : goal.returns-in-Desk-List-clause-why
+returns-in-Desk-List-clause-why g c = WorldGoesBy-weaker c.list.ensures.why (λ u v it. search (rules, it))
 
-pub returns-in-List-clause-may : goal.returns-in-List-clause-may
-returns-in-List-clause-may g c = WorldGoesBy-weaker c.list.ensures.lists (λ u v it. on_err c.list.result (inl it.0))
+pub returns-in-Desk-List-clause-may : goal.returns-in-Desk-List-clause-may
+returns-in-Desk-List-clause-may g c = WorldGoesBy-weaker c.list.ensures.lists (λ u v it. on_err c.list.result (inl it.0))
 
-pub returns-in-Act-clause-performs : goal.returns-in-Act-clause-performs
-returns-in-Act-clause-performs g c = WorldGoesBy-weaker c.perform.ensures.performs (λ u v it. search (rules, it))
+pub returns-in-Desk-Act-clause-performs : goal.returns-in-Desk-Act-clause-performs
+returns-in-Desk-Act-clause-performs g c = WorldGoesBy-weaker c.perform.ensures.performs (λ u v it. search (rules, it))
 
-pub returns-in-Act-clause-why : goal.returns-in-Act-clause-why
-returns-in-Act-clause-why g c = WorldGoesBy-weaker c.perform.ensures.why (λ u v it. search (rules, it))
+pub returns-in-Desk-Act-clause-why : goal.returns-in-Desk-Act-clause-why
+returns-in-Desk-Act-clause-why g c = WorldGoesBy-weaker c.perform.ensures.why (λ u v it. search (rules, it))
 
-pub returns-in-Act-clause-may : goal.returns-in-Act-clause-may
-returns-in-Act-clause-may g c = WorldGoesBy-weaker c.perform.ensures.may (λ u v may. may_single c.perform.result c.args.now u v c.args.order.now may)
+pub returns-in-Desk-Act-clause-may : goal.returns-in-Desk-Act-clause-may
+returns-in-Desk-Act-clause-may g c = WorldGoesBy-weaker c.perform.ensures.may (λ u v may. may_single c.perform.result c.args.now u v c.args.order.now may)

@@ -3,10 +3,10 @@ use Rattle.std.proofs.lemmas.Grind.{common_steps}
 use Rattle.dh_script.proofs.RunLemmas.{added, stayed}
 use Rattle.dh_script.proofs.script.add_line.Goals as goal
 
-pub returns-in_ok-expect : goal.returns-in_ok-expect
-returns-in_ok-expect c =
+pub returns-in_ok-push : goal.returns-in_ok-push
+returns-in_ok-push c =
     let some : 0 < length c.in_ok-words.words.items = grind (arith, common_steps, c.in_ok-words.words.ok.0) in
-    added c.args.batch.now.items c.push.new.self.items c.in_ok-words.words c.args.line.now c.in_ok-push.ensures.items c.in_ok-words.ensures some
+    added c.args.batch.now.items c.push.new.self.items _ c.args.line.now c.in_ok-push.ensures.items c.in_ok-words.ensures some
 
 pub returns-else-not-is_empty : goal.returns-else-not-is_empty
 returns-else-not-is_empty c =

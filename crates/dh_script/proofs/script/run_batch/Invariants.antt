@@ -5,10 +5,10 @@ use Rattle.dh_lines.specs.App.{docs_app}
 use Rattle.dh_script.specs.Running.{RunsInto, words_seen}
 use Rattle.dh_script.proofs.script.run_batch.Given as goal
 
-abbrev pub invariant-loop-words : goal.invariant-loop-words
-invariant-loop-words g l = record {
+abbrev pub invariant-loop-line : goal.invariant-loop-line
+invariant-loop-line g l = record {
   fine : g.W.Sink.broken l.sink ≡ false;
   stands : StandsFor docs_app l.program;
   ran : WorldGoesBy g.S.Store l.fn.desk l.desk
-      (λ before after. RunsInto l.fn.now before (words_seen (take l.words-index l.lines)) after (g.W.Sink.held l.fn.sink) (g.W.Sink.held l.sink));
+      (λ before after. RunsInto l.fn.now before (words_seen (take l.line-index l.lines)) after (g.W.Sink.held l.fn.sink) (g.W.Sink.held l.sink));
 }

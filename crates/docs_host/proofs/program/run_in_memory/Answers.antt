@@ -3,7 +3,8 @@ use Rattle.sqlite.proofs.Callers.{memory_is_clean}
 use Rattle.sqlite.specs.Steps.{over_memory}
 use Rattle.dh_http.specs.Desk.{world}
 use Rattle.dh_http.proofs.Moving.{goes_at}
-use Rattle.dh_lines.specs.declared.lines.Order.TheVariants.{Script}
+use Rattle.dh_lines.specs.declared.lines.Order.TheVariants.{Program}
+use Rattle.dh_lines.specs.declared.lines.ProgramOrder.TheVariants.{Script}
 use Rattle.docs_host.specs.Ends.{EndsScript}
 use Rattle.docs_host.specs.Failing.{is_of_memory}
 use Rattle.docs_host.proofs.Ending.{no_desk, script_ended}
@@ -12,7 +13,7 @@ use Rattle.docs_host.proofs.program.run_in_memory.Goals as goal
 pub returns-in_err-desk-clause-ends : goal.returns-in_err-desk-clause-ends
 returns-in_err-desk-clause-ends g c =
     no_desk (EndsScript c.args.now (g.R.Source.left c.args.source.now) (g.W.Sink.held c.args.sink.now) (g.W.Sink.held c.args.sink.now))
-    (inl refl) (is_of_memory Script) refl c.in_err-desk.field-0.0 c.from_residual.result c.from_residual.ensures.1
+    (inl refl) (is_of_memory (Program Script)) refl c.in_err-desk.field-0.0 c.from_residual.result c.from_residual.ensures.1
 
 pub returns-clause-ends : goal.returns-clause-ends
 returns-clause-ends g c =
