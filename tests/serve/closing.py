@@ -22,6 +22,11 @@ SMALL, LARGE = "/en/main/small.html", "/en/main/large.bin"
 IN_ALL, QUIET, SLACK = 3, 1, 0.9
 
 
+def get_with_line(line, target=SMALL):
+    """A GET without a body, with one line more in its head."""
+    return f"GET {target} HTTP/1.1\r\nHost: {HOST}\r\n{line}\r\n\r\n".encode()
+
+
 def get_with_body(announced, sent, target=SMALL):
     """A GET that announces a body of so many bytes, and so many of them."""
     head = f"GET {target} HTTP/1.1\r\nHost: {HOST}\r\nContent-Length: {announced}\r\n\r\n"
@@ -59,8 +64,19 @@ def beside_bodies(part, server):
         wanted = (200, b"<p>small</p>")
         replies = {reply_to(server.port, get_with_body(announced, announced)) for _ in range(20)}
         part.same(f"a page asked for with a body of {announced} bytes, 20 times", replies, {wanted})
+    for length in (50, 5000, 65536, 1000000):
+        longer = post_of(length) + b" "
+        replies = {(reply_to(server.port, longer) or [None])[0] for _ in range(20)}
+        part.same(f"a push whose body is a byte longer than its {length}, 20 times", replies, {200})
     two = get_bytes(SMALL, HOST) * 2
     part.same("two requests at once: a reply to the first", reply_to(server.port, two), (200, b"<p>small</p>"))
+
+
+def post_of(length):
+    """A push whose body has so many bytes, most of them spaces."""
+    body = b'{"key":"k0","kind":"branch","ref":"main"}'.ljust(length)
+    head = f"POST /_/push HTTP/1.1\r\nHost: {HOST}\r\nDocs-Key: {KEY}\r\nContent-Length: {length}\r\n\r\n"
+    return head.encode() + body
 
 
 def reply_to(port, request):
@@ -132,6 +148,8 @@ def silent_clients(part, server):
     for what, request, least, most in (
         ("a GET without a body", get_bytes(SMALL, HOST), 0, SLACK),
         ("a GET that announces no byte", get_with_body(0, 0), 0, SLACK),
+        ("a GET with a line that begins as Content-Length", get_with_line("Content-Length-X: 5"), 0, SLACK),
+        ("a GET with a line that begins as Transfer-Encoding", get_with_line("Transfer-Encoding-X: a"), 0, SLACK),
         ("a POST that came whole", post, 0, SLACK),
         ("a GET whose body stops", get_with_body(20000, 9000), QUIET, IN_ALL),
         ("a GET whose body comes a byte at a time", get_with_body(20000, 9000), IN_ALL - QUIET, IN_ALL + SLACK),

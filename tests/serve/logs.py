@@ -77,8 +77,9 @@ REQUESTS = [
     (b"\r\n" + post("/_/push", PUSH), "200 POST /_/push docs.test - feature/y"),
     (b"\r\n\r\n" + get_bytes("/en/main/a.html", HOST), "200 GET /en/main/a.html docs.test - -"),
     (get_bytes("/en/main/a.html?pass=secret-word", HOST), "200 GET /en/main/a.html docs.test - -"),
-    (b"Docs-Key: secret-word\r\n\r\n", "400 - - - NoHost -"),
-    ("GET /\u00e9 HTTP/1.1\r\nHost: \u001b[31m\r\n\r\n".encode(), "400 GET /%C3%A9 %1B%5B31m Form -"),
+    (b"Docs-Key: secret-word\r\n\r\n", "400 - - - Form -"),
+    ("GET /\u00e9 HTTP/1.1\r\nHost: \u001b[31m\r\n\r\n".encode(), "400 GET /%C3%A9 - Form -"),
+    ("GET / HTTP/1.1\r\nHost: \u00e9\r\n\r\n".encode(), "400 GET / %C3%A9 Form -"),
 ]
 
 

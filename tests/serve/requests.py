@@ -98,6 +98,9 @@ def requests(part):
         reads(part, curl)
         private(part, curl)
         refused_requests(part, curl)
+        raw = b"\r\n\r\n" + hosts.get_bytes("/en/main/behind-empty-lines", HOST)
+        part.same("a page behind empty lines", hosts.read_reply(hosts.ask(curl.port, raw))[0], 404)
+        curl.asked += 1
         # A connection that brings no request.
         socket.create_connection(("127.0.0.1", server.port)).close()
         part.same("a page after a client that left", curl("/en/main/guide/")[0], 200)
@@ -107,6 +110,9 @@ def requests(part):
         words = told[0].split() if told else []
         part.same("--log has the host, and no reason of a reply that is good", words[5:6] + words[7:], [HOST, "-", "-"])
         part.check("--log has the moment", words[6:7] and abs(time.time() - int(words[6])) < 3600, words)
+        shown = [line.split() for line in lines if "behind-empty-lines" in line]
+        wanted = ["404", "GET", "/en/main/behind-empty-lines", HOST]
+        part.same("--log has method, target and host behind empty lines", [it[:3] + it[5:6] for it in shown], [wanted])
         part.same("--log has the reason of each 400", [line.split()[7] for line in lines if line.startswith("400 ")], ["Form", "NoHost", "NoEnd"])
         part.check("--log has no pass and no key", not any(word in line for line in lines for word in (KEY, "reader-7")))
         # Two lines more say what is served, and that it begins; and one is of the client that left.

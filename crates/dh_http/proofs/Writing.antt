@@ -1,13 +1,13 @@
 -- What is written, from what is made for a request.
-use Rattle.std.proofs.Common.{◌≡◌, ℕ, Bool, false, List, Option, Some, None, Result, Ok, Err, IfOk, inl, inr, refl, sym, subst}
+use Rattle.std.proofs.Common.{◌≡◌, ◌⊎◌, ℕ, Bool, false, List, Option, Some, None, Result, Ok, Err, IfOk, inl, inr, refl, sym, subst}
 use Rattle.std.specs.Prelude.{IfSome}
 use Rattle.std.specs.Result.{result_ok}
 use Rattle.dh_requests.specs.declared.request.Request.{Request}
 use Rattle.dh_requests.specs.declared.request.Request.TheVariants as request
 use Rattle.dh_requests.specs.Request.{IsRequest}
+use Rattle.dh_requests.specs.declared.cause.Cause.{Cause}
 use Rattle.dh_requests.proofs.Requests.{one}
 use Rattle.dh_wire.specs.Statuses.{fault_reply_of}
-use Rattle.dh_wire.specs.declared.reply.Allow.{Allow}
 use Rattle.dh_wire.specs.declared.reply.Read.{Read}
 use Rattle.dh_wire.specs.declared.reply.Reply.{Reply}
 use Rattle.dh_world.specs.World.{World}
@@ -19,7 +19,7 @@ use Rattle.dh_http.specs.declared.fault.Done.{Done}
 use Rattle.dh_http.specs.declared.fault.EngineFault.{EngineFault}
 use Rattle.dh_http.specs.declared.fault.EngineFault.TheVariants as fault
 use Rattle.dh_http.specs.Commands.{command_reply, unavailable}
-use Rattle.dh_http.specs.Answers.{IsReplyTo, IsWritten, AnswersRequest, AnswersSource, MakesReply, MayDoRequest, WritesAnswer, IsRefusal, AsksInVain, is_bodiless, read_reply}
+use Rattle.dh_http.specs.Answers.{IsReplyTo, IsWritten, AnswersRequest, AnswersSource, MakesReply, MayDoRequest, WritesAnswer, IsRefusal, AsksInVain, is_bodiless, read_reply, refusal_reply}
 
 -- a command was done, and its reply is the outcome's
 pub applied : {E : Type 0} (moment : ℕ) (before after : World) (command : Command) (outcome : Result Answer Refusal) (r : Result Reply E) (o : Option Reply)
@@ -34,16 +34,16 @@ read_made moment before after host pass read head (Some q) it = it
 read_made moment before after host pass read head None it = it.0
 
 -- a request was refused, which leaves the world
-pub refusal_made : {E : Type 0} (moment : ℕ) (world : World) (status : ℕ) (allow : Option Allow) (head : Bool) (r : Result Reply E) (o : Option Reply)
-    → o ≡ result_ok r → IfOk r (λ q. q ≡ fault_reply_of status allow) → MakesReply moment world world (request.Refused status allow head) o
-refusal_made moment world status allow head (Ok q) o is value = subst (MakesReply moment world world (request.Refused status allow head)) (sym is) (refl, value)
-refusal_made moment world status allow head (Err e) o is value = subst (MakesReply moment world world (request.Refused status allow head)) (sym is) refl
+pub refusal_made : {E : Type 0} (moment : ℕ) (world : World) (cause : Cause) (head : Bool) (r : Result Reply E) (o : Option Reply)
+    → o ≡ result_ok r → IfOk r (λ q. q ≡ refusal_reply cause) → MakesReply moment world world (request.Refused cause head) o
+refusal_made moment world cause head (Ok q) o is value = subst (MakesReply moment world world (request.Refused cause head)) (sym is) (refl, value)
+refusal_made moment world cause head (Err e) o is value = subst (MakesReply moment world world (request.Refused cause head)) (sym is) refl
 
 -- what has a reply was done
 pub reply_lost : (moment : ℕ) (before after : World) (request : Request) (reply : Reply) → IsReplyTo moment before after request reply → MayDoRequest before after request
 reply_lost moment before after (request.Read host pass read head) reply it = it.0
 reply_lost moment before after (request.Apply command) reply it = (it.0, it.1)
-reply_lost moment before after (request.Refused status allow head) reply it = it.0
+reply_lost moment before after (request.Refused cause head) reply it = it.0
 
 -- what is written of one kind is of another
 pub writes_as : (P Q : ℕ → List ℕ → Type 0) (held now : Option (List ℕ)) (r : Result Done EngineFault) → ((s : ℕ) (t : List ℕ) → P s t → Q s t) → WritesAnswer P held now r → WritesAnswer Q held now r
@@ -88,6 +88,17 @@ unread_answered moment world left held now r w =
 pub in_vain : (P : Type 0) (left : Option (List ℕ)) (request : Request) → IfSome left (λ input. IsRequest input request) → (IsRefusal request → P) → IfSome left (λ input. AsksInVain input → P)
 in_vain P None request is h = tt
 in_vain P (Some input) request is h = λ v. h (subst IsRefusal (one input v.0 request v.1 is) v.2)
+
+-- what was heard of a request that was answered
+pub was_heard : (P : Type 0) (r : Result Done EngineFault) → P → IfOk r (λ done. (done.status ≡ 503) ⊎ P)
+was_heard P (Ok done) p = inr p
+was_heard P (Err fault) p = tt
+
+-- nothing was, where memory ran out
+pub was_unheard : (P : Type 0) (head : Bool) (held now : Option (List ℕ)) (r : Result Done EngineFault) → WritesAnswer (IsWritten unavailable head) held now r → IfOk r (λ done. (done.status ≡ 503) ⊎ P)
+unfolding fault_reply_of
+was_unheard P head held now (Ok done) w = inl w.1.status_is
+was_unheard P head held now (Err fault) w = tt
 
 -- what holds anyway
 pub anyway : (P : Type 0) (left : Option (List ℕ)) → P → IfSome left (λ input. AsksInVain input → P)

@@ -7,7 +7,11 @@ use Rattle.dh_wire.specs.Statuses.{fault_reply_of}
 use Rattle.dh_wire.specs.Wire.{reply_bytes_of}
 use Rattle.dh_wire.specs.declared.reply.Read.{Read}
 use Rattle.dh_wire.specs.declared.reply.Reply.{Reply}
+use Rattle.dh_requests.specs.Causes.{status_of, allowed_by}
+use Rattle.dh_requests.specs.Heard.{HearsRequest}
 use Rattle.dh_requests.specs.Request.{IsRequest}
+use Rattle.dh_requests.specs.declared.cause.Cause.{Cause}
+use Rattle.dh_requests.specs.declared.heard.Heard.{Heard}
 use Rattle.dh_requests.specs.declared.request.Request.{Request}
 use Rattle.dh_requests.specs.declared.request.Request.TheVariants as request
 use Rattle.dh_world.specs.World.{World}
@@ -34,14 +38,18 @@ IsAppliedAs before after command reply =
     × IsStep before after command outcome
     × (reply ≡ command_reply outcome)
 
+-- the reply to a refused request
+abbrev pub refusal_reply : Cause → Reply
+refusal_reply cause = fault_reply_of (status_of cause) (allowed_by cause)
+
 -- the reply to a request at a moment: a command alone changes the world
 abbrev pub IsReplyTo : ℕ → World → World → Request → Reply → Type 0
 IsReplyTo moment before after (request.Read host pass read head) reply =
     (after ≡ before) × (reply ≡ read_reply moment before host pass read)
 IsReplyTo moment before after (request.Apply command) reply =
     IsAppliedAs before after command reply
-IsReplyTo moment before after (request.Refused status allow head) reply =
-    (after ≡ before) × (reply ≡ fault_reply_of status allow)
+IsReplyTo moment before after (request.Refused cause head) reply =
+    (after ≡ before) × (reply ≡ refusal_reply cause)
 
 -- a command was done, or refused, or set aside
 abbrev pub MayApply : World → World → Command → Type 0
@@ -52,7 +60,7 @@ MayApply before after command =
 abbrev pub MayDoRequest : World → World → Request → Type 0
 MayDoRequest before after (request.Read host pass read head) = after ≡ before
 MayDoRequest before after (request.Apply command) = MayApply before after command
-MayDoRequest before after (request.Refused status allow head) = after ≡ before
+MayDoRequest before after (request.Refused cause head) = after ≡ before
 
 -- the reply to a request, where one was made; else what the request may have done
 abbrev pub MakesReply : ℕ → World → World → Request → Option Reply → Type 0
@@ -63,7 +71,7 @@ MakesReply moment before after request None = MayDoRequest before after request
 abbrev pub is_bodiless : Request → Bool
 is_bodiless (request.Read host pass read head) = head
 is_bodiless (request.Apply command) = false
-is_bodiless (request.Refused status allow head) = head
+is_bodiless (request.Refused cause head) = head
 
 -- the status and the bytes of a reply, with its body or without
 pub record IsWritten (reply : Reply) (head : Bool) (status : ℕ) (text : List ℕ) : Type 0 where
@@ -86,6 +94,11 @@ AnswersSource moment left before after status text =
     × IfSome left (λ input. IsRequest input request)
     × AnswersRequest moment before after request status text)
     ⊎ ((after ≡ before) × IsWritten unavailable false status text)
+
+-- this was heard of the request that the source held, or of some request where the source does not tell its bytes
+abbrev pub HearsSource : Option (List ℕ) → Option (List ℕ) → Heard → Type 0
+HearsSource old new heard =
+    (request : Request) × IfSome old (λ input. IsRequest input request) × HearsRequest old new request heard
 
 -- a whole answer was written, and its status told; or exactly its first n bytes, where the writer failed; or nothing
 abbrev pub WritesAnswer
@@ -115,7 +128,7 @@ is_unread _ = false
 
 -- a request that asks for nothing that can be done
 abbrev pub IsRefusal : Request → Type 0
-IsRefusal (request.Refused status allow head) = Unit {0}
+IsRefusal (request.Refused cause head) = Unit {0}
 IsRefusal _ = ⊥
 
 -- the input is a request that asks for nothing that can be done

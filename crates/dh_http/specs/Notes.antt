@@ -27,7 +27,7 @@ NotesCommand before after command note =
 abbrev pub NotesRequest : World → World → Request → Note → Type 0
 NotesRequest before after (request.Read host pass read head) note = NotesNothing note
 NotesRequest before after (request.Apply command) note = NotesCommand before after command note
-NotesRequest before after (request.Refused status allow head) note = NotesNothing note
+NotesRequest before after (request.Refused cause head) note = NotesNothing note
 
 -- the note is of the request that a source holds, or of some request where it does not tell its bytes; or nothing was read
 abbrev pub NotesSource : Option (List ℕ) → World → World → Note → Type 0

@@ -1,6 +1,6 @@
 //! One request: read, done and answered.
 
-ghost use Rattle.std.specs.Prelude.{◌≡◌, ℕ, true, false, IfSome, IsErrOf, option_map, if◌then◌else◌};
+ghost use Rattle.std.specs.Prelude.{◌≡◌, ◌⊎◌, ℕ, true, false, IfOk, IfSome, IsErrOf, option_map, if◌then◌else◌};
 ghost use Rattle.dh_ports.specs.Ports.{CountsUpTo, CountsAtLeast};
 ghost use Rattle.dh_requests.specs.Needs.{IsNeeded};
 ghost use Rattle.dh_requests.specs.Takes.{TookAtLeast};
@@ -22,10 +22,10 @@ use dh_log::Note;
 use dh_paths::{Bytes, HostName};
 use dh_ports::{MOST_READS, READ_SIZE, Sink, Source};
 use dh_reply::{Read, Reply, fault_reply, head_bytes};
-use dh_requests::{Request, Stop, read_request};
+use dh_requests::{Cause, Heard, Request, Stop, read_request};
 use dh_world::{Answer, Command, Refusal};
 use sqlite::Alter;
-use std::alloc::Global;
+use std::alloc::{AllocError, Global};
 
 /// The reply to a read, unless memory is out or the store fails.
 fn read_reply<S: Alter>(
@@ -73,6 +73,13 @@ fn apply_reply<S: Alter>(
     command_reply(alloc, outcome).ok()
 }
 
+/// The reply to a refused request.
+fn refusal_reply(alloc: Global, cause: Cause) -> Result<Reply, AllocError>
+    ensures { IfOk result (λ r. r ≡ spec.refusal_reply cause) }
+{
+    fault_reply(alloc, cause.status(), cause.allowed())
+}
+
 /// Does what a request asks for, and gives the reply, unless memory is out or the store fails in a
 /// read.
 fn request_reply<S: Alter>(
@@ -98,7 +105,7 @@ fn request_reply<S: Alter>(
             ..
         } => read_reply(alloc, desk, host, pass, read, moment),
         Request::Apply { command } => apply_reply(alloc, desk, command, note),
-        Request::Refused { status, allow, .. } => fault_reply(alloc, *status, *allow).ok(),
+        Request::Refused { cause, .. } => refusal_reply(alloc, *cause).ok(),
     }
 }
 
@@ -167,14 +174,17 @@ fn answer_request<S: Alter, W: Sink>(
 ///
 /// A read is answered by what its caller sees of the project of its host; a POST to `/_/push` or
 /// `/_/upload` is one command; anything else is refused, and the desk is not asked. Out of memory, and where the store fails
-/// in a read, the reply is 503. At `Write` an accepted command stays. `now` is the moment of the request, in seconds since 1970. The
-/// note is of this request from then on: of a command it tells what it asks for and why it was refused, and nothing of any other.
+/// in a read, the reply is 503. At `Write` an accepted command stays. `now` is the moment of the request, in seconds since 1970.
+///
+/// What is heard of the request beside what it asks for is heard also where no whole request comes. The note is of this request from
+/// then on: of a command it tells what it asks for and why it was refused, and nothing of any other.
 pub fn answer<S: Alter, R: Source, W: Sink>(
     alloc: Global,
     desk: &mut Desk<S>,
     source: &mut R,
     sink: &mut W,
     now: u64,
+    heard: &mut Heard,
     note: &mut Note,
 ) -> Result<Done, EngineFault>
     requires reader { R.broken source.old ≡ false }
@@ -200,9 +210,11 @@ pub fn answer<S: Alter, R: Source, W: Sink>(
     ensures full { IsErrOf result EngineFault.TooManyTurns
         → CountsAtLeast (R.fills source.old) (R.fills source.new) MOST_READS }
     ensures reads { CountsUpTo (R.fills source.old) (R.fills source.new) MOST_READS }
+    ensures hears { IfOk result (λ done. (done.status ≡ 503)
+        ⊎ spec.HearsSource (R.left source.old) (R.left source.new) heard.new) }
 {
     *note = Note::nothing();
-    match read_request(alloc, source) {
+    match read_request(alloc, source, heard) {
         Ok(request) => answer_request(alloc, desk, &request, sink, now, note),
         Err(Stop::Memory) => answer_unavailable(sink, false),
         Err(Stop::Read) => Err(EngineFault::Read),

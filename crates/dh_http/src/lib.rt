@@ -13,6 +13,7 @@ mod sending;
 pub use answering::answer;
 pub use dh_desk::{Answer, Command, CommandChange, Desk, Pages, Refusal, UploadedPage};
 pub use dh_log::Note;
+pub use dh_requests::Heard;
 pub use fault::{Done, EngineFault};
 pub use laws::{same_project_same_bytes, veiled_bytes};
 pub use sending::answer_unavailable;

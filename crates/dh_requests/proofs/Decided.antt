@@ -13,6 +13,7 @@ use Rattle.dh_requests.specs.declared.head_end.HeadEnd.{HeadEnd}
 use Rattle.dh_requests.specs.declared.head_end.HeadEnd.TheVariants.{At, TooLarge, CutShort}
 use Rattle.dh_requests.specs.declared.request.Request.{Request}
 use Rattle.dh_requests.specs.declared.request.Request.TheVariants.{Refused}
+use Rattle.dh_requests.specs.declared.cause.Cause.TheVariants.{NoEnd, LongHead}
 use Rattle.dh_requests.specs.HeadEnd.{head_end_of}
 use Rattle.dh_requests.specs.Head.{IsHeadOf}
 use Rattle.dh_requests.specs.Request.{asked_of, request_behind, IsRequestUpTo, IsRequest}
@@ -289,8 +290,8 @@ head_decided text =
 
 up_to : (end : HeadEnd) (input : List ℕ) → (request : Request) × IsRequestUpTo end input request
 up_to (At n) input = let head = head_decided (take n input) in (request_behind (asked_of head.0) (drop n input), (head.0, head.1, refl))
-up_to TooLarge input = (Refused 431 None false, refl)
-up_to CutShort input = (Refused 400 None false, refl)
+up_to TooLarge input = (Refused LongHead false, refl)
+up_to CutShort input = (Refused NoEnd false, refl)
 
 -- each input is a request
 pub each : (input : List ℕ) → (request : Request) × IsRequest input request

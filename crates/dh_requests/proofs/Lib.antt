@@ -9,3 +9,4 @@ pub mod Bodies
 pub mod Decided
 pub mod Whole
 pub mod Requests
+pub mod Hearing

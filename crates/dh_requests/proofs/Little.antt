@@ -1,6 +1,6 @@
 -- A request takes no more than a head and a body of the most bytes that they may have.
-use Rattle.std.proofs.Common.{◌≡◌, ℕ, ◌+◌, ◌≤◌, ◌<◌, Bool, true, false, cond, leb, List, [], ◌∷◌, ◌++◌, length, length-append, length-take, take, Option, Some, None, Result, Ok, Err, IfSome, IfOk, unwrap_or, codes, inl, inr, refl, arith, sym, subst, ◌∙◌}
-use Rattle.std.specs.Option.{option_map, option_map_or, option_and_then}
+use Rattle.std.proofs.Common.{◌≡◌, ℕ, ◌+◌, ◌≤◌, ◌<◌, Bool, true, false, cond, leb, List, [], ◌∷◌, ◌++◌, length, length-append, length-take, take, Option, Some, None, Result, Ok, Err, IfSome, IfOk, ok_or, codes, inl, inr, refl, arith, sym, subst, ◌∙◌}
+use Rattle.std.specs.Option.{option_map, option_map_or}
 use Rattle.std.specs.Str.{bytes_eq}
 use Rattle.std.specs.Str.Parse.{digits_value}
 use Rattle.std.proofs.lemmas.Bool.Decides.{nat_tests}
@@ -10,8 +10,8 @@ use Rattle.dh_bodies.specs.declared.post.Post.{Post}
 use Rattle.dh_requests.specs.declared.asked.Asked.{Asked}
 use Rattle.dh_requests.specs.declared.asked.Asked.TheVariants.{Whole, Command}
 use Rattle.dh_requests.specs.declared.asked.Posted.{Posted}
-use Rattle.dh_requests.specs.declared.length.LengthFault.{LengthFault}
-use Rattle.dh_requests.specs.declared.length.LengthFault.TheVariants.{TooLarge as TooLong, Wrong}
+use Rattle.dh_requests.specs.declared.cause.Cause.{Cause}
+use Rattle.dh_requests.specs.declared.cause.Cause.TheVariants.{LongBody, Form}
 use Rattle.dh_requests.specs.declared.head_end.Scan.{Scan}
 use Rattle.dh_requests.specs.declared.head_end.HeadEnd.TheVariants.{At, TooLarge, CutShort}
 use Rattle.dh_requests.specs.HeadEnd.{HeadSize, head_end_in, head_end_of}
@@ -20,8 +20,8 @@ use Rattle.dh_requests.specs.Head.{Parts, parts_of}
 use Rattle.dh_requests.specs.Lengths.{is_number, limited, told_length, body_length}
 use Rattle.dh_paths.specs.Targets.{target_of}
 use Rattle.dh_wire.specs.declared.reply.Allow.TheVariants as allow
-use Rattle.dh_requests.specs.declared.request.Request.TheVariants.{Refused}
-use Rattle.dh_requests.specs.Request.{is_head, requested_host, not_allowed, post_at, read_request_of, posted, command_head, request_at, request_where_right, asked_of, HeadAsksFor}
+use Rattle.dh_requests.specs.Causes.{where_found}
+use Rattle.dh_requests.specs.Request.{asked_or_refused, is_head, one_value, requested_host, not_allowed, post_at, read_request_of, posted, command_head, request_at, request_where_right, asked_of, HeadAsksFor}
 use Rattle.dh_requests.specs.Needs.{NeedsMore, IsNeeded}
 use Rattle.dh_requests.proofs.Ends.{head_end_of-search}
 
@@ -29,14 +29,14 @@ choose : {A : Type 0} (P : A → Type 0) (b : Bool) (x y : A) → (b ≡ true �
 choose P true x y h k = h refl
 choose P false x y h k = k refl
 
-abbrev IsLength : Result ℕ LengthFault → Type 0
+abbrev IsLength : Result ℕ Cause → Type 0
 IsLength r = IfOk r (λ n. n ≤ 4194304)
 
 limited_little : (n : ℕ) → IsLength (limited n)
-limited_little n = choose IsLength (leb n 4194304) (Ok n) (Err TooLong) (λ e. grind (arith, nat_tests)) (λ e. tt)
+limited_little n = choose IsLength (leb n 4194304) (Ok n) (Err LongBody) (λ e. grind (arith, nat_tests)) (λ e. tt)
 
 told_little : (value : List ℕ) → IsLength (told_length value)
-told_little value = choose IsLength (is_number value) (limited (digits_value 10 value)) (Err Wrong) (λ e. limited_little (digits_value 10 value)) (λ e. tt)
+told_little value = choose IsLength (is_number value) (limited (digits_value 10 value)) (Err Form) (λ e. limited_little (digits_value 10 value)) (λ e. tt)
 
 length_little : (coding lines : Option (Option (List ℕ))) → IsLength (body_length coding lines)
 length_little (Some None) (Some (Some value)) = told_little value
@@ -49,25 +49,21 @@ abbrev IsLittle : Asked → Type 0
 IsLittle (Whole request) = Unit {0}
 IsLittle (Command posted) = posted.length ≤ 4194304
 
-posted_little : (post : Post) (host key : Option (List ℕ)) (r : Result ℕ LengthFault) → IsLength r → IsLittle (posted post host key r)
+posted_little : (post : Post) (host key : Option (List ℕ)) (r : Result ℕ Cause) → IsLength r → IsLittle (posted post host key r)
 posted_little post host key (Ok n) h = h
-posted_little post host key (Err fault) h = tt
+posted_little post host key (Err cause) h = tt
 
-and_then : {A : Type 0} (o : Option A) (f : A → Option Asked) → ((a : A) → IfSome (f a) IsLittle) → IfSome (option_and_then f o) IsLittle
-and_then None f h = tt
-and_then (Some a) f h = h a
-
-mapped : {A : Type 0} (o : Option A) (f : A → Asked) → ((a : A) → IsLittle (f a)) → IfSome (option_map f o) IsLittle
-mapped None f h = tt
-mapped (Some a) f h = h a
+found : {A : Type 0} (r : Result A Cause) (f : A → Result Asked Cause) → ((a : A) → IfOk (f a) IsLittle) → IfOk (where_found r f) IsLittle
+found (Ok a) f h = h a
+found (Err cause) f h = tt
 
 map_or : {A : Type 0} (o : Option A) (f : A → Asked) (d : Asked) → ((a : A) → IsLittle (f a)) → IsLittle d → IsLittle (option_map_or f o d)
 map_or None f d h k = k
 map_or (Some a) f d h k = h a
 
-or : (o : Option Asked) (d : Asked) → IfSome o IsLittle → IsLittle d → IsLittle (unwrap_or o d)
-or None d h k = k
-or (Some a) d h k = h
+or_refused : (head : Bool) (r : Result Asked Cause) → IfOk r IsLittle → IsLittle (asked_or_refused head r)
+or_refused head (Ok asked) h = h
+or_refused head (Err cause) h = tt
 
 post_little : (post : Post) (parts : Parts) (host key : Option (List ℕ)) → IsLittle (command_head post parts host key)
 post_little post parts host key =
@@ -78,12 +74,12 @@ asked_little : (head : Option RequestHead) → IsLittle (asked_of head)
 asked_little None = tt
 asked_little (Some head) =
     let parts = parts_of head in
-    or (request_where_right parts) (Whole (Refused 400 None (is_head parts.method)))
-    (and_then (target_of parts.target) (λ target. option_and_then (λ host. option_and_then (λ pass. option_map (λ key. request_at parts target host pass key) parts.key) parts.pass) (requested_host target.host parts.host)) (λ target.
-    and_then (requested_host target.host parts.host) (λ host. option_and_then (λ pass. option_map (λ key. request_at parts target host pass key) parts.key) parts.pass) (λ host.
-    and_then parts.pass (λ pass. option_map (λ key. request_at parts target host pass key) parts.key) (λ pass.
-    mapped parts.key (λ key. request_at parts target host pass key) (λ key.
-    map_or (post_at target.path) (λ post. command_head post parts host key) (Whole (read_request_of parts.method target host pass)) (λ post. post_little post parts host key) tt))))) tt
+    or_refused (is_head parts.method) (request_where_right parts)
+    (found (ok_or (target_of parts.target) Form) _ (λ target.
+    found (requested_host target.host parts.host) _ (λ host.
+    found (one_value parts.pass) _ (λ pass.
+    found (one_value parts.key) _ (λ key.
+    map_or (post_at target.path) (λ post. command_head post parts host key) (Whole (read_request_of parts.method target host pass)) (λ post. post_little post parts host key) tt)))))
 
 -- the body that a head asks for has at most 4,194,304 bytes
 pub asks_little : (text : List ℕ) (posted : Posted) → HeadAsksFor text (Command posted) → posted.length ≤ 4194304

@@ -10,7 +10,7 @@ use Rattle.std.proofs.lemmas.Str.{IsUtf8-from_ascii, IsUtf8-from_is_utf8, is_utf
 use Rattle.std.proofs.lemmas.Str.Ascii.{IsAscii-from_all}
 use Rattle.std.proofs.lemmas.Str.Parse.{IsNumeralModel, numerals_by_value, parse_digits}
 use Rattle.dh_texts.specs.Texts.{is_digit}
-use Rattle.dh_requests.specs.declared.length.LengthFault.TheVariants.{TooLarge}
+use Rattle.dh_requests.specs.declared.cause.Cause.TheVariants.{LongBody}
 use Rattle.dh_requests.specs.Lengths.{is_number, limited}
 
 digits : IsNumeralModel (λ ds. list_all is_digit ds ≡ true) (digits_value 10)
@@ -32,16 +32,16 @@ pub number_utf8 : (text : List ℕ) → is_number text ≡ true → IsUtf8 text
 number_utf8 text h =
     IsUtf8-from_ascii text (IsAscii-from_all text (All-weaker (λ b. is_digit b ≡ true) (λ b. b < 128) digit_below text (AllPass-from_list_all is_digit text (all_digits text h))))
 
-above : (n : ℕ) → 2 ^ 64 ≤ n → Err TooLarge ≡ limited n
+above : (n : ℕ) → 2 ^ 64 ≤ n → Err LongBody ≡ limited n
 above n le =
     let more : leb n 4194304 ≡ false = grind (arith, nat_tests) in
-    sym (ap (λ b. cond b (Ok n) (Err TooLarge)) more)
+    sym (ap (λ b. cond b (Ok n) (Err LongBody)) more)
 
 not_below : (n m : ℕ) → (n < m → ⊥) → m ≤ n
 not_below n m h = omega arith
 
 -- digits that are no number of 64 bits write one that is too large
-pub too_large : {E : Type 0} (text : List ℕ) (e : E) → is_number text ≡ true → ParsesUnsigned 64 10 text (Err e) → Err TooLarge ≡ limited (digits_value 10 text)
+pub too_large : {E : Type 0} (text : List ℕ) (e : E) → is_number text ≡ true → ParsesUnsigned 64 10 text (Err e) → Err LongBody ≡ limited (digits_value 10 text)
 too_large {E = E} text e number parsed =
     let refused = parse_digits digits 64 text (Err e) parsed (all_digits text number) in
     above (digits_value 10 text) (not_below (digits_value 10 text) (2 ^ 64) (λ lt. refused (some_digit text number, lt)))

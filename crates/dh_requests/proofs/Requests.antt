@@ -11,6 +11,7 @@ use Rattle.dh_requests.specs.declared.asked.Asked.TheVariants.{Whole, Command}
 use Rattle.dh_requests.specs.declared.asked.Posted.{Posted}
 use Rattle.dh_requests.specs.declared.request.Request.{Request}
 use Rattle.dh_requests.specs.declared.request.Request.TheVariants.{Refused}
+use Rattle.dh_requests.specs.declared.cause.Cause.TheVariants.{ShortBody}
 use Rattle.dh_requests.specs.declared.head.Head.{Head}
 use Rattle.dh_requests.specs.declared.head_end.HeadEnd.{HeadEnd}
 use Rattle.dh_requests.specs.declared.head_end.HeadEnd.TheVariants.{At, TooLarge, CutShort}
@@ -53,7 +54,7 @@ whole_body (Ok q) (Some x) (Some y) before after body start posted true w le h s
     let count : start + posted.length - start ≡ posted.length = omega arith in
     let front : take posted.length (drop start (before ++ x)) ≡ body =
     ap (take posted.length) rest ∙ take-append-le posted.length (drop start after) y fits ∙ ap (λ n. take n (drop start after)) (sym count) ∙ sym same in
-    is ∙ sym (ap (λ b. cond b (posted_command posted (take posted.length (drop start (before ++ x)))) (Refused 400 None false)) long ∙ ap (posted_command posted) front)
+    is ∙ sym (ap (λ b. cond b (posted_command posted (take posted.length (drop start (before ++ x)))) (Refused ShortBody false)) long ∙ ap (posted_command posted) front)
 
 -- the request of what came and what is left is that of the input
 request_at : (old mid : Option (List ℕ)) (bytes : List ℕ) (end : HeadEnd) (request : Request) → IfSome old (λ input. end ≡ head_end_of input) → Consumes old mid bytes → IfSome mid (λ left. IsRequestUpTo end (bytes ++ left) request) → IfSome old (λ input. IsRequest input request)

@@ -2,8 +2,9 @@ pub mod HeadEnd
 pub mod Scan
 pub mod Fields
 pub mod Head
-pub mod Faults
+pub mod Causes
 pub mod Lengths
 pub mod Takes
 pub mod Request
 pub mod Needs
+pub mod Heard

@@ -1,6 +1,6 @@
 -- Which request the bytes of an input are.
-use Rattle.std.specs.Prelude.{◌≡◌, ℕ, Bool, false, ◌||◌, List, [], length, take, drop, Option, Some, None, Result, Ok, Err, unwrap_or, if◌then◌else◌, codes, nat_le}
-use Rattle.std.specs.Option.{option_map, option_map_or, option_and_then}
+use Rattle.std.specs.Prelude.{◌≡◌, ℕ, Bool, false, ◌||◌, List, [], length, take, drop, Option, Some, None, Result, Ok, Err, ok_or, unwrap_or, if◌then◌else◌, codes, nat_le}
+use Rattle.std.specs.Option.{option_map_or}
 use Rattle.std.specs.Str.{bytes_eq, is_utf8}
 use Rattle.httparse.specs.Grammar.{RequestHead}
 use Rattle.dh_paths.specs.declared.target.Target.{Target}
@@ -12,7 +12,8 @@ use Rattle.dh_bodies.specs.declared.post.Post.{Post}
 use Rattle.dh_bodies.specs.declared.post.Post.TheVariants.{Push, Upload}
 use Rattle.dh_requests.specs.declared.head_end.HeadEnd.{HeadEnd}
 use Rattle.dh_requests.specs.declared.head_end.HeadEnd.TheVariants.{At, TooLarge, CutShort}
-use Rattle.dh_requests.specs.declared.length.LengthFault.{LengthFault}
+use Rattle.dh_requests.specs.declared.cause.Cause.{Cause}
+use Rattle.dh_requests.specs.declared.cause.Cause.TheVariants.{NoEnd, NoHost, TwoLines, ShortBody, Form, Method, LongHead}
 use Rattle.dh_requests.specs.declared.request.Request.{Request}
 use Rattle.dh_requests.specs.declared.request.Request.TheVariants.{Read, Apply, Refused}
 use Rattle.dh_requests.specs.declared.asked.Posted.{Posted}
@@ -20,7 +21,8 @@ use Rattle.dh_requests.specs.declared.asked.Asked.{Asked}
 use Rattle.dh_requests.specs.declared.asked.Asked.TheVariants.{Whole, Command}
 use Rattle.dh_requests.specs.HeadEnd.{head_end_of}
 use Rattle.dh_requests.specs.Head.{IsHeadOf, Parts, parts_of}
-use Rattle.dh_requests.specs.Lengths.{body_length, length_status}
+use Rattle.dh_requests.specs.Causes.{where_found}
+use Rattle.dh_requests.specs.Lengths.{body_length}
 
 -- the method is HEAD, whose replies have no body (RFC 9110, section 9.3.2)
 abbrev pub is_head : List ℕ → Bool
@@ -29,10 +31,14 @@ is_head method = bytes_eq method (codes "HEAD")
 -- the host of a request: that of its target, else that of the Host line; there has to be exactly one Host
 -- line, whichever is used (RFC 9112, section 3.2)
 abbrev pub requested_host :
-    Option (List ℕ) → Option (Option (List ℕ)) → Option (Option (List ℕ))
-requested_host named (Some (Some value)) = host_of (unwrap_or named value)
-requested_host named (Some None) = None
-requested_host named None = None
+    Option (List ℕ) → Option (Option (List ℕ)) → Result (Option (List ℕ)) Cause
+requested_host named (Some (Some value)) = ok_or (host_of (unwrap_or named value)) Form
+requested_host named (Some None) = Err NoHost
+requested_host named None = Err TwoLines
+
+-- the value of a line that may stand once, or none where it does not stand
+abbrev pub one_value : Option (Option (List ℕ)) → Result (Option (List ℕ)) Cause
+one_value lines = ok_or lines TwoLines
 
 -- ---- by the path and the method
 
@@ -45,7 +51,7 @@ post_at path =
 
 -- the refusal of a method that is not allowed
 abbrev pub not_allowed : Allow → List ℕ → Request
-not_allowed allowed method = Refused 405 (Some allowed) (is_head method)
+not_allowed allowed method = Refused (Method allowed) (is_head method)
 
 -- GET and HEAD read; any other method is refused
 abbrev pub read_request_of : List ℕ → Target → Option (List ℕ) → Option (List ℕ) → Request
@@ -65,7 +71,7 @@ key_text key = option_map_or text_of key []
 -- a command whose body has this length, or the refusal of its length; a host that no project can have
 -- is the empty text
 abbrev pub posted :
-    Post → Option (List ℕ) → Option (List ℕ) → Result ℕ LengthFault → Asked
+    Post → Option (List ℕ) → Option (List ℕ) → Result ℕ Cause → Asked
 posted post host key (Ok count) =
     Command (record {
       host = unwrap_or host [];
@@ -73,7 +79,7 @@ posted post host key (Ok count) =
       post = post;
       length = count;
     })
-posted post host key (Err fault) = Whole (Refused (length_status fault) None false)
+posted post host key (Err cause) = Whole (Refused cause false)
 
 -- POST is a command; any other method is refused
 abbrev pub command_head : Post → Parts → Option (List ℕ) → Option (List ℕ) → Asked
@@ -92,22 +98,26 @@ request_at parts target host pass key =
     (Whole (read_request_of parts.method target host pass))
 
 -- what a head asks for, where its target and its host are right, and it has no more than one line for the
--- pass and one for the key
-abbrev pub request_where_right : Parts → Option Asked
+-- pass and one for the key; else the first thing that is wrong
+abbrev pub request_where_right : Parts → Result Asked Cause
 request_where_right parts =
-    option_and_then (λ target.
-    option_and_then (λ host.
-    option_and_then (λ pass.
-    option_map (λ key. request_at parts target host pass key) parts.key) parts.pass)
-    (requested_host target.host parts.host)) (target_of parts.target)
+    where_found (ok_or (target_of parts.target) Form) (λ target.
+    where_found (requested_host target.host parts.host) (λ host.
+    where_found (one_value parts.pass) (λ pass.
+    where_found (one_value parts.key) (λ key. Ok (request_at parts target host pass key)))))
+
+-- what was found, or the refusal; to HEAD, where it is the method
+abbrev pub asked_or_refused : Bool → Result Asked Cause → Asked
+asked_or_refused head (Ok asked) = asked
+asked_or_refused head (Err cause) = Whole (Refused cause head)
 
 -- what a head asks for; a head in which something is wrong is a bad request
 abbrev pub asked_by_head : Parts → Asked
-asked_by_head parts = unwrap_or (request_where_right parts) (Whole (Refused 400 None (is_head parts.method)))
+asked_by_head parts = asked_or_refused (is_head parts.method) (request_where_right parts)
 
 -- what a head of the grammar asks for; a text that is no such head is a bad request
 abbrev pub asked_of : Option RequestHead → Asked
-asked_of None = Whole (Refused 400 None false)
+asked_of None = Whole (Refused Form false)
 asked_of (Some head) = asked_by_head (parts_of head)
 
 -- ---- the body
@@ -116,7 +126,7 @@ asked_of (Some head) = asked_by_head (parts_of head)
 unfoldable pub posted_command : Posted → List ℕ → Request
 posted_command posted body =
     option_map_or (λ change. Apply (record { host = posted.host; change = change }))
-    (body_change posted.post posted.key body) (Refused 400 None false)
+    (body_change posted.post posted.key body) (Refused Form false)
 
 -- the request of a head and of what follows it: a command has its body there, and bytes behind the body
 -- do not count; a body that is cut short is a bad request
@@ -124,7 +134,7 @@ abbrev pub request_behind : Asked → List ℕ → Request
 request_behind (Whole request) rest = request
 request_behind (Command posted) rest =
     if nat_le posted.length (length rest) then posted_command posted (take posted.length rest)
-    else Refused 400 None false
+    else Refused ShortBody false
 
 -- ---- the input
 
@@ -142,8 +152,8 @@ IsRequestText text rest request =
 -- the request of an input, by where its head ends
 abbrev pub IsRequestUpTo : HeadEnd → List ℕ → Request → Type 0
 IsRequestUpTo (At n) input request = IsRequestText (take n input) (drop n input) request
-IsRequestUpTo TooLarge input request = request ≡ Refused 431 None false
-IsRequestUpTo CutShort input request = request ≡ Refused 400 None false
+IsRequestUpTo TooLarge input request = request ≡ Refused LongHead false
+IsRequestUpTo CutShort input request = request ≡ Refused NoEnd false
 
 -- the request that the input is
 abbrev pub IsRequest : List ℕ → Request → Type 0

@@ -1,19 +1,22 @@
 //! Tells from the parts of a head what it asks for.
 
-ghost use Rattle.std.specs.Prelude.{◌≡◌, [], IfOk, IfErr, OnErr, Some, None, unwrap_or};
+ghost use Rattle.std.specs.Prelude.{◌≡◌, [], IfOk, IfErr, OnOk, OnErr, Ok, Err, unwrap_or};
 ghost use Rattle.std.specs.Option.{option_copied};
-ghost use Rattle.dh_requests.specs.Faults.{FindsInHead};
+ghost use Rattle.dh_requests.specs.Causes.{FindsInHead};
 ghost use Rattle.dh_requests.specs.Fields.{one_of};
 ghost use Rattle.dh_requests.specs.Head.{parts_found};
 ghost use Rattle.dh_requests.specs.HeadEnd.{IsHeadText};
+ghost use Rattle.dh_requests.specs.Heard.{HasNoHead, HearsHead};
 ghost use Rattle.dh_requests.specs.Request as request;
 
 use crate::asked::{Asked, Posted};
+use crate::cause::Cause;
 use crate::fault::HeadFault;
 use crate::fields::Lines;
 use crate::head::{Head, head_of};
-use crate::length::{body_length, length_status};
-use crate::request::{Request, is_head, not_allowed, read_request_of, refused};
+use crate::heard::{Heard, hear_head};
+use crate::length::body_length;
+use crate::request::{Request, is_head, not_allowed, read_request_of};
 use dh_bodies::Post;
 use dh_paths::{HostName, Target, Text, host_name, host_part};
 use dh_ports::Stop;
@@ -22,14 +25,15 @@ use std::alloc::{AllocError, Global};
 
 /// The value of a line that may stand once, if it stands.
 fn one_value<'b>(lines: Lines<'b>) -> Result<Option<&'b [u8]>, HeadFault>
-    ensures ok { IfOk result (λ value. one_of lines.entry ≡ Some (option_copied value)) }
-    ensures err { OnErr result (one_of lines.entry ≡ None) }
-    ensures fault { IfErr result (λ fault. fault ≡ HeadFault.TwoLines) }
+    ensures ok { IfOk result (λ value.
+        request.one_value (one_of lines.entry) ≡ Ok (option_copied value)) }
+    ensures err { OnErr result (request.one_value (one_of lines.entry) ≡ Err Cause.TwoLines) }
+    ensures fault { IfErr result (λ fault. fault ≡ HeadFault.Refused Cause.TwoLines) }
 {
     match lines {
         Lines::Absent => Ok(None),
         Lines::One(value) => Ok(Some(value)),
-        Lines::Many => Err(HeadFault::TwoLines),
+        Lines::Many => Err(HeadFault::Refused(Cause::TwoLines)),
     }
 }
 
@@ -46,8 +50,8 @@ fn requested_host(
             Some(part) => Ok(host_name(alloc, part.as_str())?),
             None => Ok(host_part(alloc, value)?),
         },
-        Lines::Absent => Err(HeadFault::NoLine),
-        Lines::Many => Err(HeadFault::TwoLines),
+        Lines::Absent => Err(HeadFault::Refused(Cause::NoHost)),
+        Lines::Many => Err(HeadFault::Refused(Cause::TwoLines)),
     }
 }
 
@@ -113,7 +117,7 @@ fn command_head(
             post,
             length,
         })),
-        Err(fault) => Ok(Asked::Whole(refused(length_status(fault), false))),
+        Err(cause) => Ok(Asked::Whole(Request::Refused { cause, head: false })),
     }
 }
 
@@ -136,7 +140,7 @@ fn request_at(
     }
 }
 
-/// What a head asks for, or the first fault in it.
+/// What a head asks for, or the first thing that is wrong with it.
 fn request_where_right(alloc: Global, head: &Head<'_>) -> Result<Asked, HeadFault>
     ensures { FindsInHead (request.request_where_right (parts_found head.now)) result }
 {
@@ -151,24 +155,32 @@ fn request_of_head(alloc: Global, head: &Head<'_>) -> Result<Asked, Stop>
     ensures asked { IfOk result (λ asked. asked ≡ request.asked_by_head (parts_found head.now)) }
     ensures err { IfErr result (λ stop. stop ≡ Stop.Memory) }
 {
-    let fault = match request_where_right(alloc, head) {
-        Ok(asked) => return Ok(asked),
-        Err(fault) => fault,
-    };
-    if fault == HeadFault::Memory {
-        return Err(Stop::Memory);
+    match request_where_right(alloc, head) {
+        Ok(asked) => Ok(asked),
+        Err(HeadFault::Refused(cause)) => Ok(Asked::Whole(Request::Refused {
+            cause,
+            head: is_head(head.method),
+        })),
+        Err(HeadFault::Memory) => Err(Stop::Memory),
     }
-    Ok(Asked::Whole(refused(400, is_head(head.method))))
 }
 
-/// What the text of a head asks for.
-pub fn parse_request_head(alloc: Global, text: &[u8]) -> Result<Asked, Stop>
-    requires { IsHeadText text.now }
+/// What the text of a head asks for, of which nothing but its first line was heard.
+pub fn parse_request_head(alloc: Global, text: &[u8], heard: &mut Heard) -> Result<Asked, Stop>
+    requires head { IsHeadText text.now }
+    requires unheard { HasNoHead heard.old }
     ensures asked { IfOk result (request.HeadAsksFor text.now) }
+    ensures heard { OnOk result (HearsHead text.now heard.old heard.new) }
     ensures err { IfErr result (λ stop. stop ≡ Stop.Memory) }
 {
     match head_of(text) {
-        Some(head) => request_of_head(alloc, &head),
-        None => Ok(Asked::Whole(refused(400, false))),
+        Some(head) => {
+            hear_head(alloc, heard, &head, text)?;
+            request_of_head(alloc, &head)
+        }
+        None => Ok(Asked::Whole(Request::Refused {
+            cause: Cause::Form,
+            head: false,
+        })),
     }
 }

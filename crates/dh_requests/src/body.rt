@@ -7,11 +7,11 @@ ghost use Rattle.dh_requests.specs.Takes.{AddsPiece, AddsUpTo, FillsUpTo, TakesN
 
 use dh_ports::{Intake, MOST_READS, READ_SIZE, Source, Stop};
 
-/// The most bytes that one read of a body asks for.
+/// The most bytes of a body that one read asks for.
 const LARGE_PIECE: usize = 65_536;
 
-/// Reads once, up to 65,536 bytes and no more than are missing, and answers whether any came. The room for them is a local of
-/// this function, which small bodies are not read by.
+/// Reads once, up to 65,536 bytes, and one more where no more are missing, which shows that something follows the body; and
+/// answers whether any came. The room for them is a local of this function, which small bodies are not read by.
 fn read_large<R: Source>(intake: &mut Intake, source: &mut R, missing: usize) -> Result<bool, Stop>
     requires fine { R.broken source.old ≡ false }
     requires some { 0 < missing }
@@ -30,8 +30,8 @@ fn read_large<R: Source>(intake: &mut Intake, source: &mut R, missing: usize) ->
     if intake.reads == MOST_READS {
         return Err(Stop::TooManyTurns);
     }
-    let mut room = [0u8; LARGE_PIECE];
-    let size = missing.min(LARGE_PIECE);
+    let mut room = [0u8; LARGE_PIECE + 1];
+    let size = missing.min(LARGE_PIECE) + 1;
     match source.fill(&mut room[..size]) {
         Err(_) => Err(Stop::Read),
         Ok(0) => Ok(false),
@@ -45,7 +45,8 @@ fn read_large<R: Source>(intake: &mut Intake, source: &mut R, missing: usize) ->
     }
 }
 
-/// Reads once, and answers whether any bytes came: in a large piece where more than 4,096 bytes are missing.
+/// Reads once, and answers whether any bytes came: in a large piece where 4,096 bytes or more are missing. A read that brings
+/// the last of them has room for another.
 fn read_piece<R: Source>(intake: &mut Intake, source: &mut R, missing: usize) -> Result<bool, Stop>
     requires fine { R.broken source.old ≡ false }
     requires some { 0 < missing }
@@ -61,7 +62,7 @@ fn read_piece<R: Source>(intake: &mut Intake, source: &mut R, missing: usize) ->
     ensures asked { OnOk result (CountsAtLeast (R.fills source.old) (R.fills source.new) 1) }
     ensures few { intake.new.reads ≤ MOST_READS }
 {
-    if missing > READ_SIZE {
+    if missing >= READ_SIZE {
         return read_large(intake, source, missing);
     }
     intake.more(source)

@@ -1,21 +1,18 @@
-//! Why a head asks for nothing that can be done.
+//! What stops the reading of a head.
 
 ghost use Rattle.std.specs.Prelude.{◌≡◌};
-ghost use Rattle.dh_requests.specs.Faults.{head_fault};
+ghost use Rattle.dh_requests.specs.Causes.{head_fault};
 ghost use Rattle.dh_requests.specs.declared.fault.HeadFault.TheVariants.{Memory};
 
+use crate::cause::Cause;
 use dh_paths::TextFault;
 use std::alloc::AllocError;
 
 /// Why a head asks for nothing that can be done.
 #[derive(Clone, Copy, Debug, PartialEq, Eq, Drop)]
 pub enum HeadFault {
-    /// The target is no target, or the host no host part.
-    BadText,
-    /// A line that must stand is missing.
-    NoLine,
-    /// A line stands twice that may stand once.
-    TwoLines,
+    /// The head is refused.
+    Refused(Cause),
     /// Out of memory, which says nothing of the head.
     Memory,
 }
@@ -27,7 +24,7 @@ impl From<TextFault> for HeadFault {
         if text == TextFault::Memory {
             HeadFault::Memory
         } else {
-            HeadFault::BadText
+            HeadFault::Refused(Cause::Form)
         }
     }
 }

@@ -1,9 +1,10 @@
 //! What a request is.
 
-ghost use Rattle.std.specs.Prelude.{◌≡◌, Some, None, IfOk};
+ghost use Rattle.std.specs.Prelude.{◌≡◌, IfOk};
 ghost use Rattle.std.specs.Option.{option_copied};
 ghost use Rattle.dh_requests.specs.Request as request;
 
+use crate::cause::Cause;
 use dh_paths::{Bytes, HostName, Target};
 use dh_wire::{Allow, Read};
 use dh_world::Command;
@@ -28,23 +29,10 @@ pub enum Request {
     },
     /// A request that is refused.
     Refused {
-        status: u16,
-        /// The methods that are allowed, for 405.
-        allow: Option<Allow>,
+        cause: Cause,
         /// Whether the reply's body is left out.
         head: bool,
     },
-}
-
-/// A request that is refused by this status.
-pub fn refused(status: u16, head: bool) -> Request
-    ensures { result ≡ Request.Refused status None head }
-{
-    Request::Refused {
-        status,
-        allow: None,
-        head,
-    }
 }
 
 /// Whether the reply to this method has no body.
@@ -59,8 +47,7 @@ pub fn not_allowed(allow: Allow, method: &[u8]) -> Request
     ensures { result ≡ request.not_allowed allow method.now }
 {
     Request::Refused {
-        status: 405,
-        allow: Some(allow),
+        cause: Cause::Method(allow),
         head: is_head(method),
     }
 }

@@ -1,7 +1,7 @@
 //! One request over the sample.
 
 use crate::filling::sample_desk;
-use dh_http::{Done, EngineFault, Note, Refusal, answer, answer_unavailable};
+use dh_http::{Done, EngineFault, Heard, Note, Refusal, answer, answer_unavailable};
 use dh_ports::{MOST_READS, READ_SIZE, Sink, Source};
 use std::alloc::Global;
 use thiserror::Error;
@@ -63,8 +63,9 @@ pub fn answer_sample<R: Source, W: Sink>(
 {
     match sample_desk(alloc) {
         Ok(mut desk) => {
+            let mut heard = Heard::new(alloc);
             let mut note = Note::nothing();
-            told(answer(alloc, &mut desk, source, sink, now, &mut note))
+            told(answer(alloc, &mut desk, source, sink, now, &mut heard, &mut note))
         }
         Err(Refusal::OutOfMemory) => told(answer_unavailable(sink, false)),
         Err(_) => Err(SampleFault::Store),

@@ -74,7 +74,7 @@ module _ (moment : ℕ) (before after : World) where
     one_done before after (Act command) (outcome_of is.0) (is.0, is.1, refl),
     (is.0, (refl, refl), is.2),
   )
-  replied (request.Refused status allow head) reply is = ([], [], (is.0, refl), ((refl, refl), is.1))
+  replied (request.Refused cause head) reply is = ([], [], (is.0, refl), ((refl, refl), is.1))
 
   may_call : (q : Request) → MayDoRequest before after q → Called before after (MayCall q)
   may_call (request.Read host pass read head) same = ([], [], (same, refl), (refl, refl))
@@ -84,7 +84,7 @@ module _ (moment : ℕ) (before after : World) where
     one_done before after (Act command) (outcome_of does.0) (does.0, does.1, refl),
     (does.0, (refl, refl)),
   )
-  may_call (request.Refused status allow head) same = ([], [], (same, refl), (refl, refl))
+  may_call (request.Refused cause head) same = ([], [], (same, refl), (refl, refl))
 
   requested : (q : Request) (status : ℕ) (text : List ℕ) → AnswersRequest moment before after q status text
       → Called before after (λ calls outcomes. TellsRequest moment before q calls outcomes status text)

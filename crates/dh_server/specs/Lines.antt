@@ -1,34 +1,14 @@
 -- What the log tells of a request.
-use Rattle.std.specs.Prelude.{ℕ, ◌||◌, Bool, not, List, take, drop, position, Option, Some, None, Result, Ok, Err, codes, nat_eq, nat_le, if◌then◌else◌}
+use Rattle.std.specs.Prelude.{ℕ, List, [], Option, Some, None, Result, Ok, Err, codes, nat_eq, nat_le, if◌then◌else◌}
 use Rattle.std.specs.Fmt.{decimal}
-use Rattle.dh_log.specs.Heads.{up_to}
 use Rattle.dh_log.specs.Lines.{shown}
 use Rattle.dh_log.specs.declared.entry.Level.{Level}
 use Rattle.dh_log.specs.declared.entry.Level.TheVariants.{Error, Warning, Info}
+use Rattle.dh_requests.specs.Causes.{name_of}
+use Rattle.dh_requests.specs.declared.cause.Cause.{Cause}
 use Rattle.dh_http.specs.declared.fault.Done.{Done}
 use Rattle.dh_http.specs.declared.fault.EngineFault.{EngineFault}
 use Rattle.dh_http.specs.declared.fault.EngineFault.TheVariants as fault
-use Rattle.dh_server.specs.declared.beginning.TheConstants.{MOST_LINE_TOLD}
-
-abbrev pub ends_line : ℕ → Bool
-ends_line byte = nat_eq byte 13 || nat_eq byte 10
-
--- what stands at the place and behind it, or all where there is no place
-abbrev pub from_place : Option ℕ → List ℕ → List ℕ
-from_place None bytes = bytes
-from_place (Some at) bytes = drop at bytes
-
--- what stands behind the empty lines that may come before a request (RFC 9112, section 2.2)
-abbrev pub begun : List ℕ → List ℕ
-begun bytes = from_place (position (λ byte. not (ends_line byte)) bytes) bytes
-
--- what came up to the first CR or LF, but no more than 2,048 bytes
-abbrev pub line_in : List ℕ → List ℕ
-line_in bytes = take MOST_LINE_TOLD (up_to (position ends_line bytes) bytes)
-
--- the first line that is not empty
-abbrev pub first_line : List ℕ → List ℕ
-first_line bytes = line_in (begun bytes)
 
 -- how grave the end of a request is
 abbrev pub level_of : Result Done EngineFault → Level
@@ -41,3 +21,13 @@ told_as (Ok done) = decimal done.status
 told_as (Err fault.Read) = shown (codes "Read")
 told_as (Err (fault.Write n)) = shown (codes "Write")
 told_as (Err fault.TooManyTurns) = shown (codes "TooManyTurns")
+
+-- the name of the cause, where there is one
+abbrev pub name_in : Option Cause → List ℕ
+name_in None = []
+name_in (Some cause) = name_of cause
+
+-- why a request was answered by a 400: the cause of its refusal; empty for a command, and for any other status
+abbrev pub reason_of : Result Done EngineFault → Option Cause → List ℕ
+reason_of (Ok done) cause = if nat_eq done.status 400 then name_in cause else []
+reason_of (Err fault) cause = []

@@ -1,6 +1,7 @@
 -- What is told where it may be lost: a sink that has failed takes no more. And what the log is told of a connection.
 use Rattle.std.specs.Prelude.{◌≡◌, ℕ, Bool, false, List, Option, Result}
 use Rattle.std.specs.Io.KnownBytes.{Appends}
+use Rattle.dh_requests.specs.declared.heard.Heard.{Heard}
 use Rattle.dh_http.specs.declared.fault.Done.{Done}
 use Rattle.dh_http.specs.declared.fault.EngineFault.{EngineFault}
 use Rattle.dh_log.specs.Entries.{IsOfMessage, IsOfRequest}
@@ -10,7 +11,7 @@ use Rattle.dh_log.specs.declared.entry.Entry.{Entry}
 use Rattle.dh_log.specs.declared.entry.Measured.{Measured}
 use Rattle.dh_log.specs.declared.subject.Note.{Note}
 use Rattle.dh_log.specs.declared.subject.Ordered.{Ordered}
-use Rattle.dh_server.specs.Lines.{first_line, level_of, told_as}
+use Rattle.dh_server.specs.Lines.{level_of, reason_of, told_as}
 
 module _ {S : Type 0} (broken : S → Bool) (held : S → Option (List ℕ)) where
   -- the text stands behind what the sink held, unless the sink has failed
@@ -22,11 +23,19 @@ module _ {S : Type 0} (broken : S → Bool) (held : S → Option (List ℕ)) whe
   abbrev pub TellsSome : S → S → Type 0
   TellsSome old new = (text : List ℕ) × WritesUnlessBroken old new text
 
--- the entry is of a request that came at this moment, ended so, was noted so, and began with these bytes
-abbrev pub IsEntryOfRequest : Result Done EngineFault → ℕ → Note → List ℕ → Entry → Type 0
-IsEntryOfRequest result moment note bytes entry =
+-- what is told of a request is how it ended and what was heard of it
+pub record TellsHeard (result : Result Done EngineFault) (heard : Heard) (answered : Answered) : Type 0 where
+  pub level_is : answered.level ≡ level_of result
+  pub outcome_is : shown_word answered.outcome ≡ told_as result
+  pub reason_is : answered.reason.now ≡ reason_of result heard.cause
+  pub line_is : answered.line.now ≡ heard.line
+  pub host_is : answered.host.now ≡ heard.host
+
+-- the entry is of a request that came at this moment, ended so, was noted so, and of which this was heard
+abbrev pub IsEntryOfRequest : Result Done EngineFault → ℕ → Note → Heard → Entry → Type 0
+IsEntryOfRequest result moment note heard entry =
     (answered : Answered) × (measured : Measured)
-    × (answered.level ≡ level_of result) × (shown_word answered.outcome ≡ told_as result) × (answered.line.now ≡ first_line bytes)
+    × TellsHeard result heard answered
     × (measured.moment ≡ moment)
     × IsOfRequest answered note measured entry
 

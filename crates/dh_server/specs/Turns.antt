@@ -2,7 +2,6 @@
 use Rattle.std.specs.Prelude.{◌≡◌, ◌⊎◌, ℕ, ◌+◌, Bool, false, not, if◌then◌else◌, List, [], ◌∷◌, length, Option, Result, Ok, Err, IfSome, is_ok}
 use Rattle.std.specs.Io.KnownBytes.{Appends}
 use Rattle.std.specs.List.{FoldsTo}
-use Rattle.dh_wire.specs.Statuses.{fault_reply_of}
 use Rattle.dh_wire.specs.declared.reply.Reply.{Reply}
 use Rattle.dh_requests.specs.Request.{IsRequest}
 use Rattle.dh_requests.specs.declared.request.Request.{Request}
@@ -18,7 +17,7 @@ use Rattle.dh_histories.specs.declared.call.Call.{Call}
 use Rattle.dh_histories.specs.declared.call.Call.TheVariants.{Act, Ask}
 use Rattle.dh_histories.specs.CallsDone.{AreCallsDone, outcome_of}
 use Rattle.dh_http.specs.Commands.{unavailable, command_reply}
-use Rattle.dh_http.specs.Answers.{IsWritten, is_bodiless, read_reply}
+use Rattle.dh_http.specs.Answers.{IsWritten, is_bodiless, read_reply, refusal_reply}
 use Rattle.dh_http.specs.declared.fault.Done.{Done}
 use Rattle.dh_http.specs.declared.fault.EngineFault.{EngineFault}
 use Rattle.dh_http.specs.declared.fault.EngineFault.TheVariants as fault
@@ -55,14 +54,14 @@ RepliesBy moment before (request.Read host pass read head) calls outcomes reply 
 RepliesBy moment before (request.Apply command) calls outcomes reply =
     (answer : Result Answer Refusal) × IsOneCall (Act command) (outcome_of answer) calls outcomes
     × (reply ≡ command_reply answer)
-RepliesBy moment before (request.Refused status allow head) calls outcomes reply =
-    IsNoCall calls outcomes × (reply ≡ fault_reply_of status allow)
+RepliesBy moment before (request.Refused cause head) calls outcomes reply =
+    IsNoCall calls outcomes × (reply ≡ refusal_reply cause)
 
 -- the calls of a request without a reply of its own
 abbrev pub MayCall : Request → List Call → List Outcome → Type 0
 MayCall (request.Read host pass read head) calls outcomes = IsNoCall calls outcomes
 MayCall (request.Apply command) calls outcomes = IsCommand command calls outcomes
-MayCall (request.Refused status allow head) calls outcomes = IsNoCall calls outcomes
+MayCall (request.Refused cause head) calls outcomes = IsNoCall calls outcomes
 
 -- the status and the bytes that answer a request: those of the reply by its calls; or of a 503, whose cause is not told
 abbrev pub TellsRequest : ℕ → World → Request → List Call → List Outcome → ℕ → List ℕ → Type 0

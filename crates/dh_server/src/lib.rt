@@ -1,7 +1,6 @@
 //! A server: one request a connection, one connection after another.
 #![tactic(auto)]
 
-mod beginning;
 mod control;
 mod counted;
 mod joined;
@@ -14,7 +13,6 @@ mod stream;
 mod telling;
 mod timed;
 
-pub use beginning::{Beginning, Heard};
 pub use control::{Control, NoControl};
 pub use counted::Counted;
 pub use dh_http::{Done, EngineFault};

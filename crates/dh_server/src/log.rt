@@ -2,12 +2,15 @@
 
 ghost use Rattle.std.specs.Prelude.{◌≡◌};
 ghost use Rattle.dh_log.specs.Lines.{shown_word};
+ghost use Rattle.dh_log.specs.Logs.{TellsEntry};
+ghost use Rattle.dh_log.specs.declared.entry.Entry.{Entry};
 ghost use Rattle.dh_server.specs.Lines as spec;
 ghost use Rattle.dh_server.specs.Telling.{IsEntryOfRequest, IsEntryOfMessage};
 
-use crate::beginning::Beginning;
 use dh_http::{Done, EngineFault, Note};
 use dh_log::{Answered, Entry, Level, Log, Measured, Ordered, Word};
+use dh_requests::{Cause, Heard};
+use std::alloc::Global;
 use std::io::Write;
 use std::time::{Clock, Instant};
 
@@ -71,31 +74,52 @@ fn outcome_of<'a>(answered: Result<Done, EngineFault>) -> Word<'a>
     }
 }
 
-/// Why what came was answered by a 400; empty where it was not.
-fn reason_of(answered: Result<Done, EngineFault>, came: &Beginning) -> &'static str {
+/// Why a request was answered by a 400; empty where it was not, and for a command, of which its refusal is told.
+fn reason_of(answered: Result<Done, EngineFault>, cause: Option<Cause>) -> &'static str
+    ensures { result.now ≡ spec.reason_of answered cause }
+{
     match answered {
-        Ok(Done { status: 400 }) => came.bad_part(),
-        _ => "",
+        Ok(Done { status: 400 }) => match cause {
+            Some(cause) => cause.name(),
+            None => "",
+        },
+        Ok(_) => "",
+        Err(_) => "",
     }
 }
 
-/// Makes the entry of a request, by how it ended, what is noted of it, and how it begins.
-pub fn request_entry<'a>(
+/// Makes the entry of a request, by how it ended, what is noted of it, and what was heard of it.
+fn request_entry<'a>(
     answered: Result<Done, EngineFault>,
     note: &'a Note,
-    came: &'a Beginning,
+    heard: &'a Heard,
     measured: Measured,
 ) -> Entry<'a>
-    ensures { IsEntryOfRequest answered measured.moment note.now came.now.bytes.items result }
+    ensures { IsEntryOfRequest answered measured.moment note.now heard.now result }
 {
     let ended = Answered {
         level: level_of(answered),
         outcome: outcome_of(answered),
-        reason: reason_of(answered, came),
-        line: came.first_line(),
-        host: came.host(),
+        reason: reason_of(answered, heard.cause),
+        line: heard.line.as_slice(),
+        host: heard.host.as_slice(),
     };
     Entry::of_request(&ended, note, measured)
+}
+
+/// Tells the log a request, by how it ended, what is noted of it, and what was heard of it.
+pub fn tell_request<L: Write>(
+    alloc: Global,
+    log: &mut Log<L>,
+    answered: Result<Done, EngineFault>,
+    note: &Note,
+    heard: &Heard,
+    measured: Measured,
+)
+    ensures { (entry : Entry) × IsEntryOfRequest answered measured.moment note.now heard.now entry
+        × TellsEntry L.contents log.old entry log.new }
+{
+    log.tell(alloc, &request_entry(answered, note, heard, measured));
 }
 
 /// Makes the entry of a message of the control socket.

@@ -1,6 +1,6 @@
 //! Connections, one after another.
 
-ghost use Rattle.std.specs.Prelude.{◌≡◌, ◌≤◌, true, false, not, drop, is_ok, Some, if◌then◌else◌};
+ghost use Rattle.std.specs.Prelude.{◌≡◌, ◌⊎◌, ◌≤◌, ◌&&◌, true, false, not, drop, is_ok, IfOk, Some, if◌then◌else◌};
 ghost use Rattle.std.specs.Io.KnownBytes.{append_known};
 ghost use Rattle.dh_http.specs.Desk.{WorldGoesBy};
 ghost use Rattle.dh_http.specs.Answers as spec;
@@ -12,19 +12,20 @@ ghost use Rattle.dh_log.specs.Logs.{TellsEntry, TellsMany};
 ghost use Rattle.dh_log.specs.declared.entry.Entry.{Entry};
 ghost use Rattle.dh_log.specs.declared.subject.Note.{Note};
 ghost use Rattle.dh_log.specs.declared.subject.Ordered.{Ordered};
+ghost use Rattle.dh_requests.specs.Heard.{is_one};
 
-use crate::beginning::{Beginning, Heard};
 use crate::control::Control;
 use crate::counted::Counted;
 use crate::joined::Joined;
 use crate::listening::{Came, Listen};
-use crate::log::{measure, message_entry, request_entry, start_of};
+use crate::log::{measure, message_entry, start_of, tell_request};
 use crate::steady::Steady;
 use crate::stream::read_out;
 use crate::timed::Timed;
 use dh_http::{Desk, Done, EngineFault, Note, answer};
 use dh_log::{Entry, Log};
 use dh_ports::{Port, Sink, Source};
+use dh_requests::Heard;
 use sqlite::Alter;
 use std::alloc::Global;
 use std::io::Write;
@@ -43,6 +44,7 @@ pub fn answer_joined<S: Alter, R: Source, W: Sink>(
     source: &mut R,
     sink: &mut Joined<W>,
     now: u64,
+    heard: &mut Heard,
     note: &mut Note,
 ) -> Result<Done, EngineFault>
     requires reader { R.broken source.old ≡ false }
@@ -58,52 +60,58 @@ pub fn answer_joined<S: Alter, R: Source, W: Sink>(
     ensures closed { desk.old.closed ≡ true → desk.new ≡ desk.old }
     ensures reader_fault { R.broken source.new ≡ spec.reader_failed result }
     ensures writer_fault { W.broken sink.new.inner ≡ spec.writer_failed result }
+    ensures hears { IfOk result (λ done. (done.status ≡ 503)
+        ⊎ spec.HearsSource (R.left source.old) (R.left source.new) heard.new) }
 {
-    let done = answer(alloc, desk, source, sink, now, note)?;
+    let done = answer(alloc, desk, source, sink, now, heard, note)?;
     match sink.hand_on() {
         Ok(()) => Ok(done),
         Err(count) => Err(EngineFault::Write(count)),
     }
 }
 
-/// Whether input may be left unread behind a reply.
-fn leaves_input(answered: Result<Done, EngineFault>, came: &Beginning) -> bool {
-    answered.is_ok() && !came.is_whole()
+/// Whether input may be left unread behind a reply: where not exactly one request came.
+fn leaves_input(answered: Result<Done, EngineFault>, heard: &Heard) -> bool
+    ensures { result ≡ (is_ok answered && not (is_one heard.now)) }
+{
+    answered.is_ok() && !heard.is_one()
 }
 
 /// Answers the request of a source on a sink at a moment, and tells it to the log: of a command what is noted of it, and of any
-/// other request how it begins.
+/// other request what was heard of it.
 pub fn answer_heard<S: Alter, R: Source, W: Sink, T: Clock + Copy, L: Write>(
     alloc: Global,
     desk: &mut Desk<S>,
-    source: &mut Heard<R>,
+    source: &mut R,
     sink: &mut Joined<Counted<W>>,
     now: u64,
+    heard: &mut Heard,
     timer: T,
     log: &mut Log<L>,
 ) -> Result<Done, EngineFault>
-    requires reader { R.broken source.old.inner ≡ false }
+    requires reader { R.broken source.old ≡ false }
     requires writer { W.broken sink.old.inner.inner ≡ false }
     ensures answers { WorldGoesBy S.Store desk.old desk.new
-        (λ before after. AnswersConnection now (R.left source.old.inner)
+        (λ before after. AnswersConnection now (R.left source.old)
         (append_known (W.held sink.old.inner.inner) (drop sink.old.gone sink.old.kept.items))
         (W.held sink.new.inner.inner) before after result) }
     ensures some { WorldGoesBy S.Store desk.old desk.new (AnswersSome now (is_ok result)) }
     ensures closed { desk.old.closed ≡ true → desk.new ≡ desk.old }
-    ensures reader_fault { R.broken source.new.inner ≡ spec.reader_failed result }
+    ensures reader_fault { R.broken source.new ≡ spec.reader_failed result }
     ensures writer_fault { W.broken sink.new.inner.inner ≡ spec.writer_failed result }
+    ensures hears { IfOk result (λ done. (done.status ≡ 503)
+        ⊎ spec.HearsSource (R.left source.old) (R.left source.new) heard.new) }
     ensures tells { (note : Note) × (entry : Entry)
         × WorldGoesBy S.Store desk.old desk.new
-        (λ before after. NotesSource (R.left source.old.inner) before after note)
-        × IsEntryOfRequest result now note source.new.beginning.bytes.items entry
+        (λ before after. NotesSource (R.left source.old) before after note)
+        × IsEntryOfRequest result now note heard.new entry
         × TellsEntry L.contents log.old entry log.new }
 {
     let start = start_of(&timer, log);
     let mut note = Note::nothing();
-    let result = answer_joined(alloc, desk, source, sink, now, &mut note);
+    let result = answer_joined(alloc, desk, source, sink, now, heard, &mut note);
     let measured = measure(&timer, start, now, sink.inner().count());
-    let came = source.beginning();
-    log.tell(alloc, &request_entry(result, &note, came, measured));
+    tell_request(alloc, log, result, &note, heard, measured);
     result
 }
 
@@ -120,12 +128,21 @@ fn answer_stream<S: Alter, T: Clock + Copy, L: Write>(
     ensures closed { desk.old.closed ≡ true → desk.new ≡ desk.old }
     ensures tells { TellsMany L.contents log.old log.new 1 }
 {
-    let input = Timed::new(timer, MOST_SECONDS, Port::new(Steady::new(stream)));
+    let mut source = Timed::new(timer, MOST_SECONDS, Port::new(Steady::new(stream)));
     let output = Timed::new(timer, MOST_SECONDS, Port::new(Steady::new(stream)));
-    let mut source = Heard::new(alloc, input);
     let mut sink = Joined::new(alloc, Counted::new(output));
-    let result = answer_heard(alloc, desk, &mut source, &mut sink, now, timer, log);
-    if leaves_input(result, source.beginning()) {
+    let mut heard = Heard::new(alloc);
+    let result = answer_heard(
+        alloc,
+        desk,
+        &mut source,
+        &mut sink,
+        now,
+        &mut heard,
+        timer,
+        log,
+    );
+    if leaves_input(result, &heard) {
         read_out(timer, stream);
     }
     result.is_ok()

@@ -16,7 +16,7 @@ use crate::failure::{Failure, Status, tell_report};
 use crate::refusing::tell_refusal;
 use crate::serving::{Served, serve};
 use crate::streams::Streams;
-use dh_http::{Desk, Note, answer};
+use dh_http::{Desk, Heard, Note, answer};
 use dh_lines::Order;
 use dh_ports::{Sink, Source, put_both};
 use dh_script::{Report, ScriptFault, perform_single, run_script};
@@ -124,7 +124,8 @@ fn answer_request<S: Alter, R: Source, W: Sink>(
         (W.held sink.old) (W.held sink.new) result) }
     ensures ends { Ended (λ status. IsTrue (may_end_request status)) is_of_request result }
 {
-    answer(alloc, desk, source, sink, now, &mut Note::nothing())?;
+    let (mut heard, mut note) = (Heard::new(alloc), Note::nothing());
+    answer(alloc, desk, source, sink, now, &mut heard, &mut note)?;
     Ok(Status::Done)
 }
 

@@ -68,7 +68,8 @@ fn asks(
         calls,
         stopped: false,
     };
-    let request = read_request(rt.alloc(), &mut source)?;
+    let mut heard = Heard::new(rt.alloc());
+    let request = read_request(rt.alloc(), &mut source, &mut heard)?;
     Ok(is_for(&request, wanted))
 }
 
@@ -167,5 +168,130 @@ fn reads_to_the_end(rt: HostRuntime) -> Result<(), Fail> {
         let came = read_all(&rt, input.as_slice(), piece);
         assert!(rt; came == wanted);
     }
+    Ok(())
+}
+
+/// What is heard of a text, in pieces of so many bytes.
+fn heard(rt: &HostRuntime, text: &str, piece: usize) -> Heard {
+    let mut source = Pieces {
+        rest: text.as_bytes(),
+        piece,
+        calls: CALLS,
+        stopped: false,
+    };
+    let mut heard = Heard::new(rt.alloc());
+    let _ = read_request(rt.alloc(), &mut source, &mut heard);
+    heard
+}
+
+/// Also where a name begins as one that tells the length.
+#[test]
+fn one_request(rt: HostRuntime) -> Result<(), Fail> {
+    for text in [
+        "GET / HTTP/1.1\r\nHost: docs.test\r\n\r\n",
+        "\r\n\nGET / HTTP/1.1\nHost: docs.test\n\n",
+        "GET / HTTP/1.1\r\nHost: docs.test\r\nContent-Length: 0\r\n\r\n",
+        "GET / HTTP/1.1\r\nHost: docs.test\r\nContent-Length-X: 5\r\n\r\n",
+        "GET / HTTP/1.1\r\nHost: docs.test\r\nTransfer-Encoding-X: a\r\n\r\n",
+        "POST /_/push HTTP/1.1\r\nHost: docs.test\r\ncontent-length:3\r\n\r\n{}\n",
+    ] {
+        for piece in [1, 7, 4_096] {
+            assert!(rt; heard(&rt, text, piece).is_one(), "{text}");
+        }
+    }
+    Ok(())
+}
+
+#[test]
+fn less_than_one(rt: HostRuntime) -> Result<(), Fail> {
+    for text in [
+        "",
+        "GET / HTTP/1.1\r\nHost: docs.test\r\n",
+        "GET / HTTP/1.1\r\nHost: docs.test\r\nContent-Length: 3\r\n\r\n",
+        "GET / HTTP/1.1\r\nHost: docs.test\r\nContent-Length: 3\r\n\r\nxx",
+        "POST /_/push HTTP/1.1\r\nHost: docs.test\r\nContent-Length: 3\r\n\r\n{}",
+    ] {
+        assert!(rt; !heard(&rt, text, 7).is_one(), "{text}");
+    }
+    Ok(())
+}
+
+#[test]
+fn more_than_one(rt: HostRuntime) -> Result<(), Fail> {
+    for text in [
+        "GET / HTTP/1.1\r\nHost: docs.test\r\n\r\nx",
+        "GET / HTTP/1.1\r\nHost: docs.test\r\n\r\nGET / HTTP/1.1\r\nHost: docs.test\r\n\r\n",
+        "POST /_/push HTTP/1.1\r\nHost: docs.test\r\nContent-Length: 3\r\n\r\n{}\n\n",
+    ] {
+        assert!(rt; !heard(&rt, text, 4_096).is_one(), "{text}");
+    }
+    Ok(())
+}
+
+/// Where the head does not say by one number that a body may have how long the body is.
+#[test]
+fn nobody_knows(rt: HostRuntime) -> Result<(), Fail> {
+    for text in [
+        "GET / HTTP/1.1\r\nHost: docs.test\r\nTransfer-Encoding: chunked\r\n\r\n",
+        "GET / HTTP/1.1\r\nHost: docs.test\r\nContent-Length: three\r\n\r\n",
+        "GET / HTTP/1.1\r\nHost: docs.test\r\nContent-Length : 0\r\n\r\n",
+        "GET / HTTP/1.1\r\nHost: docs.test\r\nContent-Length: 18446744073709551615\r\n\r\n",
+        "GET / HTTP/1.1\r\nHost: docs.test\r\nContent-Length: 18446744073709551616\r\n\r\n",
+    ] {
+        assert!(rt; !heard(&rt, text, 7).is_one(), "{text}");
+    }
+    Ok(())
+}
+
+/// Behind a body of so many bytes comes one more, which is taken with the last of them however large the body is.
+#[test]
+fn one_byte_more(rt: HostRuntime) -> Result<(), Fail> {
+    for length in [2, 4_000, 5_000, 70_000, 135_000] {
+        let mut text = format!(in rt.alloc();
+            "POST /_/push HTTP/1.1\r\nHost: docs.test\r\nContent-Length: {length}\r\n\r\n"
+        )?;
+        text.push_str("x".repeat(rt.alloc(), length)?.as_str())?;
+        assert!(rt; heard(&rt, text.as_str(), 100_000).is_one(), "{length}");
+        text.push_str("x")?;
+        assert!(rt; !heard(&rt, text.as_str(), 100_000).is_one(), "{length}");
+    }
+    Ok(())
+}
+
+/// Whether this is heard of a text: its first line, its host and why it is refused.
+fn is_heard(rt: &HostRuntime, text: &str, line: &str, host: &str, cause: Option<Cause>) -> bool {
+    let came = heard(rt, text, 7);
+    came.line.as_slice() == line.as_bytes()
+        && came.host.as_slice() == host.as_bytes()
+        && came.cause == cause
+}
+
+#[test]
+fn line_host_and_cause(rt: HostRuntime) -> Result<(), Fail> {
+    let line = "GET / HTTP/1.1";
+    let good = "\r\n\r\nGET / HTTP/1.1\r\nHOST:  docs.test \r\n\r\n";
+    assert!(rt; is_heard(&rt, good, line, "docs.test", None));
+    let cut = "\nGET / HTTP/1.1\r\nHost: docs.test\r\n";
+    assert!(rt; is_heard(&rt, cut, line, "", Some(Cause::NoEnd)));
+    let nowhere = "GET / HTTP/1.1\r\nDocs-Pass: reader-7\r\n\r\nHost: docs.test\r\n";
+    assert!(rt; is_heard(&rt, nowhere, line, "", Some(Cause::NoHost)));
+    let twice = "GET / HTTP/1.1\r\nhost:docs.test\r\nDocs-Pass: a\r\ndocs-pass: b\r\n\r\n";
+    assert!(rt; is_heard(&rt, twice, line, "docs.test", Some(Cause::TwoLines)));
+    let strange = "G\u{1b}T / HTTP/1.1\r\n\r\n";
+    assert!(rt; is_heard(&rt, strange, "G\u{1b}T / HTTP/1.1", "", Some(Cause::Form)));
+    Ok(())
+}
+
+#[test]
+fn causes_of_a_post(rt: HostRuntime) -> Result<(), Fail> {
+    let line = "POST /_/push HTTP/1.1";
+    let short = "POST /_/push HTTP/1.1\nHost: docs.test\nContent-Length: 9\n\n{}";
+    assert!(rt; is_heard(&rt, short, line, "docs.test", Some(Cause::ShortBody)));
+    let other = "POST /_/push HTTP/1.1\nHost: a b\nContent-Length: 2\n\n{}";
+    assert!(rt; is_heard(&rt, other, line, "a b", Some(Cause::Form)));
+    let twice = "POST /_/push HTTP/1.1\nHost: c\nContent-Length: 2\nContent-Length: 2\n\n{}";
+    assert!(rt; is_heard(&rt, twice, line, "c", Some(Cause::TwoLines)));
+    let unsaid = "POST /_/push HTTP/1.1\nHost: c\n\n{}";
+    assert!(rt; is_heard(&rt, unsaid, line, "c", Some(Cause::NoLength)));
     Ok(())
 }

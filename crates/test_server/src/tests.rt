@@ -1,7 +1,6 @@
 //! Clients in the test's own thread: what they send waits until the server answers it. The helpers have no clause here, so that
 //! their calls stay out of a test's proof.
 
-mod beginnings;
 mod handed;
 mod kept;
 mod limits;

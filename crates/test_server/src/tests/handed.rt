@@ -1,6 +1,7 @@
 //! How replies are handed on.
 
 use super::{Counter, INSTALL};
+use dh_http::Heard;
 use dh_ports::Port;
 use dh_sample::sample_desk;
 use dh_server::{Done, EngineFault, Joined, Note, answer_joined};
@@ -23,6 +24,7 @@ fn handed(alloc: Global, room: usize) -> Result<(Result<Done, EngineFault>, usiz
         &mut source,
         &mut sink,
         0,
+        &mut Heard::new(alloc),
         &mut Note::nothing(),
     );
     Ok((done, sink.inner().calls))

@@ -65,7 +65,24 @@ fn a_line_is_told(rt: HostRuntime) -> Result<(), Fail> {
 fn a_strange_line_is_shown_as_text(rt: HostRuntime) -> Result<(), Fail> {
     assert_eq!(rt;
         told(&rt, "G\u{1b}T /\u{e9}\t HTTP/1.1\r\n\r\n")?.as_str(),
-        "400 G%1BT /%C3%A9%09 124 0 - 1000 NoHost -\n"
+        "400 G%1BT /%C3%A9%09 124 0 - 1000 Form -\n"
+    );
+    Ok(())
+}
+
+#[test]
+fn a_400_has_its_reason(rt: HostRuntime) -> Result<(), Fail> {
+    assert_eq!(rt;
+        told(&rt, "GET / HTTP/1.1\r\n\r\n")?.as_str(),
+        "400 GET / 124 0 - 1000 NoHost -\n"
+    );
+    assert_eq!(rt;
+        told(
+            &rt,
+            "POST /_/push HTTP/1.1\nHost: docs.test\nContent-Length: 9\n\n{}"
+        )?
+        .as_str(),
+        "400 POST /_/push 124 0 docs.test 1000 ShortBody -\n"
     );
     Ok(())
 }
@@ -90,7 +107,7 @@ fn an_empty_line_hides_no_request(rt: HostRuntime) -> Result<(), Fail> {
 fn what_is_no_request_line_is_not_told(rt: HostRuntime) -> Result<(), Fail> {
     assert_eq!(rt;
         told(&rt, "Docs-Key: sample-key\r\n\r\n")?.as_str(),
-        "400 - - 124 0 - 1000 NoHost -\n"
+        "400 - - 124 0 - 1000 Form -\n"
     );
     Ok(())
 }

@@ -57,12 +57,31 @@ fn page_comes_whole(rt: &HostRuntime) -> Result<bool, Fail> {
     Ok(reply_beside_body(rt, head)?.as_str() == PAGE)
 }
 
+/// So does that to a push whose body is a byte longer than its head says.
+fn push_comes_whole(rt: &HostRuntime) -> Result<bool, Fail> {
+    let head =
+        "POST /_/push HTTP/1.1\r\nHost: docs.test\r\nDocs-Key: sample-key\r\nContent-Length: 10000\r\n\r\n";
+    let mut text = String::from_str(rt.alloc(), head)?;
+    text.push_str(r#"{"key":"k1","kind":"tag","ref":"1.0.0"}"#)?;
+    text.push_str(" ".repeat(rt.alloc(), 9_961 + 1)?.as_str())?;
+    let listener = listen(rt)?;
+    let pushing = client(rt, &listener, text.as_str())?;
+    pushing.shutdown(Shutdown::Write)?;
+    let served = serve(rt, &listener, 1)?;
+    let reply = received(rt, pushing)?;
+    Ok(served == all(1) && reply.as_str().starts_with("HTTP/1.1 200 OK\r\n"))
+}
+
 #[test]
 fn clients_get_replies(rt: HostRuntime) -> Result<(), Fail> {
     assert!(rt; page_is_served(&rt)?, "a good one");
     assert!(rt; others_do_not_stop_it(&rt)?, "one behind bad ones");
     assert!(rt; refusal_comes_whole(&rt)?, "one that is refused");
     assert!(rt; page_comes_whole(&rt)?, "one that sends a body with a GET");
+    assert!(rt;
+        push_comes_whole(&rt)?,
+        "one that sends a byte more than it says"
+    );
     Ok(())
 }
 

@@ -1,8 +1,9 @@
-use Rattle.std.proofs.Common.{◌≡◌, inl, inr, refl}
+use Rattle.std.proofs.Common.{◌≡◌, false, inl, inr, refl}
 use Rattle.dh_desk.specs.Desk.{world}
 use Rattle.dh_desk.proofs.Moving.{WorldGoesBy-refl, WorldGoesBy-weaker, goes_clean}
 use Rattle.dh_http.proofs.Headlines.{headline_of}
-use Rattle.dh_http.proofs.Writing.{request_answered, unread_answered, in_vain, anyway}
+use Rattle.dh_http.specs.Answers.{HearsSource}
+use Rattle.dh_http.proofs.Writing.{request_answered, unread_answered, in_vain, anyway, was_heard, was_unheard}
 use Rattle.dh_http.proofs.answering.answer.Goals as goal
 
 pub returns-in-Ok-clause-answers : goal.returns-in-Ok-clause-answers
@@ -50,3 +51,11 @@ returns-in-Err-Read-clause-noted g c = WorldGoesBy-refl (λ w. inr (refl, c.noth
 
 pub returns-in-Err-TooManyTurns-clause-noted : goal.returns-in-Err-TooManyTurns-clause-noted
 returns-in-Err-TooManyTurns-clause-noted g c = WorldGoesBy-refl (λ w. inr (refl, c.nothing.ensures))
+
+pub returns-in-Ok-clause-hears : goal.returns-in-Ok-clause-hears
+returns-in-Ok-clause-hears g c =
+    was_heard (HearsSource (g.R.Source.left c.args.source.now) (g.R.Source.left c.read_request.new.source) c.read_request.new.heard) c.answer_request.result
+    (c.in-Ok.request, c.in-Ok.ensures.asked, c.in-Ok.ensures.hears)
+
+pub returns-in-Err-Memory-clause-hears : goal.returns-in-Err-Memory-clause-hears
+returns-in-Err-Memory-clause-hears g c = was_unheard _ false _ _ c.answer_unavailable.result c.answer_unavailable.ensures.writes

@@ -22,7 +22,7 @@ pub returns-in-Refused-clause-makes : goal.returns-in-Refused-clause-makes
 returns-in-Refused-clause-makes g c =
     let moves : Request → Type 0 = λ q. WorldGoesBy g.S.Store c.args.desk.now c.args.desk.now (λ before after. MakesReply c.args.moment before after q c.ok.result) in
     subst moves (sym c.in-Refused.is)
-    (WorldGoesBy-refl (λ w. refusal_made c.args.moment w c.in-Refused.status c.in-Refused.allow c.in-Refused.head c.fault_reply.result c.ok.result c.ok.ensures.value c.fault_reply.ensures))
+    (WorldGoesBy-refl (λ w. refusal_made c.args.moment w c.in-Refused.cause c.in-Refused.head c.refusal_reply.result c.ok.result c.ok.ensures.value c.refusal_reply.ensures))
 
 pub returns-in-Read-clause-noted : goal.returns-in-Read-clause-noted
 returns-in-Read-clause-noted g c =
