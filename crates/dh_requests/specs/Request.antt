@@ -5,6 +5,7 @@ use Rattle.std.specs.Str.{bytes_eq, is_utf8}
 use Rattle.httparse.specs.Grammar.{RequestHead}
 use Rattle.dh_paths.specs.declared.target.Target.{Target}
 use Rattle.dh_paths.specs.Targets.{target_of, host_of}
+use Rattle.dh_wire.specs.Reads.{read_of}
 use Rattle.dh_wire.specs.declared.reply.Allow.{Allow}
 use Rattle.dh_wire.specs.declared.reply.Allow.TheVariants as allow
 use Rattle.dh_bodies.specs.Bodies.{body_change}
@@ -57,7 +58,7 @@ not_allowed allowed method = Refused (Method allowed) (is_head method)
 abbrev pub read_request_of : List ℕ → Target → Option (List ℕ) → Option (List ℕ) → Request
 read_request_of method target host pass =
     if bytes_eq method (codes "GET") || is_head method
-    then Read host pass (record { path = target.path; query = target.query }) (is_head method)
+    then Read host pass (read_of target) (is_head method)
     else not_allowed allow.Get method
 
 -- the bytes as a text, or the empty text where they are not UTF-8

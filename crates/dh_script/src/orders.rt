@@ -90,12 +90,7 @@ fn do_read<S: Alter>(
     ensures explains { IfOk result (λ p. ExplainsRefusal p.reason (string_bytes p.text) p.refused) }
     ensures told { IfOk result (λ p. BlamesStore S.Store desk.old desk.new p.reason) }
 {
-    let Target {
-        host: _,
-        path,
-        query,
-    } = target;
-    let asked = Read { path, query };
+    let asked = Read::of(target);
     let outcome = read_out(desk.read(alloc, host.as_str(), pass_text(pass), &asked, moment));
     told(alloc, &outcome)
 }
