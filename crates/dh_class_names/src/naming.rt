@@ -1,5 +1,5 @@
 //! The names of a class, and of all classes of a host.
-ghost use Rattle.std.specs.Prelude.{◌≡◌, IfErr, IfOk, List, [], map, Some, None, option_map};
+ghost use Rattle.std.specs.Prelude.{◌≡◌, ◌++◌, ◌∷◌, IfErr, IfOk, List, [], OnOk, map, Some, None};
 ghost use Rattle.std.specs.Option.{option_copied};
 ghost use Rattle.dh_texts.specs.SlugOfName.{slug_from};
 ghost use Rattle.dh_world.specs.World.{Project};
@@ -255,6 +255,12 @@ fn pass_names(
     })
 }
 
+fn push(all: &mut Vec<ClassNames>, names: ClassNames) -> Result<(), AllocError>
+    ensures { OnOk result (all.new.items ≡ all.old.items ++ names ∷ []) }
+{
+    Ok(all.push(names)?)
+}
+
 /// The names of all classes of a project: of the callers with no pass, and then of each of these passes. Its
 /// records stand in the order of their keys. A version is looked up by halves, so all classes together take
 /// little more time than the records of the host are many; only the defaults that stand for no version are
@@ -273,9 +279,9 @@ pub fn names_by_class(
 {
     let public = public_top(alloc, rows)?;
     let mut all = Vec::new(alloc);
-    all.push(public_names(alloc, branch, rows, picks, public)?)?;
+    push(&mut all, public_names(alloc, branch, rows, picks, public)?)?;
     for pass in passes {
-        all.push(pass_names(alloc, branch, rows, held, picks, public, &pass.pass)?)?;
+        push(&mut all, pass_names(alloc, branch, rows, held, picks, public, &pass.pass)?)?;
     }
     Ok(all)
 }

@@ -70,7 +70,7 @@ fn tell_values<E: Sink>(alloc: Global, matches: &ArgMatches<'_>, errors: &mut E)
         Some((name, words)) => {
             put(errors, "docs_host: a word of ");
             put(errors, name);
-            put(errors, " is none that may stand there\n");
+            put(errors, " may not stand there\n");
             tell_limits(alloc, words, errors);
             put(errors, "For more information, try 'docs_host help ");
             put(errors, name);
