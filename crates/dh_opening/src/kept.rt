@@ -1,6 +1,6 @@
 //! Records read from rows that keep them, and whether a row keeps a record.
 
-ghost use Rattle.std.specs.Prelude.{◌≡◌, ◌↔◌, ◌<◌, ◌^◌, ℕ, List, [], ◌∷◌, None, IfOk, IfSome, IsTrue};
+ghost use Rattle.std.specs.Prelude.{◌≡◌, ◌↔◌, ℕ, List, [], ◌∷◌, None, IfOk, IfSome, IsTrue};
 ghost use Rattle.sqlite_schema.specs.declared.schema.Table.{Table};
 ghost use Rattle.dh_rows.proofs.Whole.{AreTextsOf, IsCodingOf};
 ghost use Rattle.dh_schema.specs.Tables as spec;
@@ -15,18 +15,12 @@ use dh_ports::Fault;
 use dh_records::{
     AliasRow, DefaultRow, GrantRow, LangRow, PageRow, PassRow, ProjectRow, Record, RedirectRow,
     RetryRow, RouteRow, RuleRow, VersionRow, action_number, is_tag, kind_number, show_number,
+    show_status,
 };
 use dh_world::{Answer, Operation};
 use sqlite::types::ToSql;
 use sqlite::{Row, params};
 use std::alloc::{AllocError, Global};
-
-/// States that a number fits 16 bits, as its type says; does nothing.
-fn show_status(n: u16)
-    ensures { n < 2 ^ 16 }
-{
-    let _ = n;
-}
 
 /// A record of a table that is read whole.
 pub trait Kept: Record {

@@ -34,7 +34,7 @@ pub struct Printed {
 }
 
 /// What is printed for an outcome.
-pub(crate) fn told(alloc: Global, outcome: &Outcome) -> Result<Printed, AllocError>
+pub(crate) fn printed_outcome(alloc: Global, outcome: &Outcome) -> Result<Printed, AllocError>
     ensures tells { IfOk result (λ p. TellsOutcome outcome.now (string_bytes p.text) p.refused) }
     ensures why { IfOk result (λ p. ExplainsOutcome outcome.now (string_bytes p.text) p.reason) }
     ensures explains { IfOk result (λ p. ExplainsRefusal p.reason (string_bytes p.text) p.refused) }
@@ -92,7 +92,7 @@ fn do_read<S: Alter>(
 {
     let asked = Read::of(target);
     let outcome = read_out(desk.read(alloc, host.as_str(), pass_text(pass), &asked, moment));
-    told(alloc, &outcome)
+    printed_outcome(alloc, &outcome)
 }
 
 fn do_get<S: Alter>(
@@ -151,7 +151,7 @@ pub fn perform<S: Alter>(
     ensures told { IfOk result (λ p. BlamesStore S.Store desk.old desk.new p.reason) }
 {
     match order {
-        Order::Act(command) => told(alloc, &commanded(desk.apply(alloc, command))),
+        Order::Act(command) => printed_outcome(alloc, &commanded(desk.apply(alloc, command))),
         Order::Get {
             host,
             target,

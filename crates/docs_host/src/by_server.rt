@@ -10,8 +10,8 @@ ghost use Rattle.docs_host.specs.Sent as spec;
 ghost use Rattle.docs_host.specs.Sent.{AsksServer, EndIsRead, EndsSent, HearsAnswer, PrintsAnswer};
 ghost use Rattle.docs_host.specs.Sent.{SendsImport, SendsLine, SendsLines, SendsNext, SendsOne};
 
-use crate::failure::{Failure, Status, tell_line, tell_sentence};
-use crate::refusing::tell_refusal;
+use crate::failure::{Failure, Status, print_line, print_sentence};
+use crate::refusing::print_refusal;
 use crate::sending::{Ask, Silence};
 use crate::streams::Streams;
 use dh_control::{End, cut, import_message, line_message, read_end, whole_lines, words_message};
@@ -156,15 +156,15 @@ fn ended_as(told: Option<Result<End, ScriptFault>>) -> Result<Option<Reason>, Co
 }
 
 /// Says why no server could be asked, where that is known.
-fn tell_silence<E: Sink>(silence: Silence, errors: &mut E)
+fn print_silence<E: Sink>(silence: Silence, errors: &mut E)
     ensures { TellsSome E.broken E.held errors.old errors.new }
 {
     match silence {
-        Silence::TooLong => tell_sentence(
+        Silence::TooLong => print_sentence(
             errors,
             "with .control behind it the path of this file has more than 107 bytes, too many for a control socket, so no server can be asked",
         ),
-        Silence::Stranger => tell_sentence(
+        Silence::Stranger => print_sentence(
             errors,
             "what stands beside this file, whose name ends in .control, is no socket of this user or of the file's owner, so it is not asked",
         ),
@@ -185,7 +185,7 @@ fn single_end<E: Sink>(
     let told = match heard {
         Ok(told) => told,
         Err(Unheard::Silent(silence)) => {
-            tell_silence(silence, errors);
+            print_silence(silence, errors);
             return Err(Failure::File(FileFault::Busy));
         }
         Err(Unheard::Unwritten) => return Err(Failure::Write),
@@ -193,7 +193,7 @@ fn single_end<E: Sink>(
     match ended_as(told) {
         Ok(None) => Ok(Status::Done),
         Ok(refused) => {
-            tell_refusal(alloc, order, refused, errors);
+            print_refusal(alloc, order, refused, errors);
             Ok(Status::Refused)
         }
         Err(fault) => Err(Failure::Control(fault)),
@@ -235,7 +235,7 @@ fn line_end<E: Sink>(
     let told = match heard {
         Ok(told) => told,
         Err(Unheard::Silent(silence)) if is_first => {
-            tell_silence(silence, errors);
+            print_silence(silence, errors);
             return Err(Failure::File(FileFault::Busy));
         }
         Err(Unheard::Silent(_)) => return Err(Failure::Control(ControlFault::Gone)),
@@ -245,7 +245,7 @@ fn line_end<E: Sink>(
     };
     match ended_as(told) {
         Ok(Some(reason)) => {
-            tell_line(alloc, errors, number, reason.sentence());
+            print_line(alloc, errors, number, reason.sentence());
             Ok(())
         }
         Ok(None) => Ok(()),

@@ -12,8 +12,8 @@ ghost use Rattle.docs_host.specs.Failing.{IsDoneOr, is_of_output, is_of_script, 
 ghost use Rattle.docs_host.specs.Failing.{is_of_order};
 ghost use Rattle.docs_host.specs.Orders.{AreUnbroken, RunsSingle, RunsRequest, RunsOrder, ServesUpTo, single_status};
 
-use crate::failure::{Failure, Status, tell_report};
-use crate::refusing::tell_refusal;
+use crate::failure::{Failure, Status, print_report};
+use crate::refusing::print_refusal;
 use crate::serving::{Served, serve};
 use crate::streams::Streams;
 use dh_http::{Desk, Heard, Note, answer};
@@ -35,7 +35,7 @@ pub fn say<W: Sink>(sink: &mut W, text: &str) -> Result<(), Failure>
     }
 }
 
-fn status_told(refused: bool) -> Status
+fn status_of(refused: bool) -> Status
     ensures status { result ≡ single_status refused }
     ensures fault { is_failure_status result ≡ false }
 {
@@ -65,8 +65,8 @@ fn do_single_order<S: Alter, W: Sink, E: Sink>(
 {
     let printed = perform_single(alloc, desk, order, now)?;
     say(sink, printed.text.as_str())?;
-    tell_refusal(alloc, order, printed.reason, errors);
-    Ok(status_told(printed.refused))
+    print_refusal(alloc, order, printed.reason, errors);
+    Ok(status_of(printed.refused))
 }
 
 /// Runs a script, and then tells which of its lines were refused.
@@ -86,7 +86,7 @@ fn run_reported<S: Alter, R: Source, W: Sink, E: Sink>(
 {
     let mut report = Report::new(alloc);
     let ran = run_script(alloc, desk, source, sink, &mut report, now);
-    tell_report(alloc, errors, &report);
+    print_report(alloc, errors, &report);
     ran
 }
 

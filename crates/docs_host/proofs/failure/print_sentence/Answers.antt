@@ -1,5 +1,5 @@
 use Rattle.dh_server.proofs.Told.{tells_both}
-use Rattle.docs_host.proofs.failure.tell_sentence.Goals as goal
+use Rattle.docs_host.proofs.failure.print_sentence.Goals as goal
 
 pub returns : goal.returns
 returns g c =

@@ -3,27 +3,27 @@ use Rattle.std.specs.Prelude.{None}
 use Rattle.docs_host.specs.Ends.{asks_help, line_asked, line_run}
 use Rattle.docs_host.proofs.Ending.{no_version, no_version_line, other_asked, version_asked}
 use Rattle.docs_host.proofs.Telling.{told_of}
-use Rattle.docs_host.proofs.program.tell_version_or_run.Goals as goal
+use Rattle.docs_host.proofs.program.print_version_or_run.Goals as goal
 
 pub returns-then-wants_version-clause-ends : goal.returns-then-wants_version-clause-ends
 returns-then-wants_version-clause-ends g c =
     version_asked (map string_bytes c.args.words.now) c.args.now (g.R.Source.left c.args.streams.now.source) (g.W.Sink.held c.args.streams.now.sink)
-    (g.W.Sink.held c.tell_version.new.sink) c.tell_version.result (sym c.wants_version.ensures ∙ c.if-wants_version.true) c.tell_version.ensures.ends
+    (g.W.Sink.held c.print_version.new.sink) c.print_version.result (sym c.wants_version.ensures ∙ c.if-wants_version.true) c.print_version.ensures.ends
 
 pub returns-then-wants_version-clause-told : goal.returns-then-wants_version-clause-told
 returns-then-wants_version-clause-told g c =
-    told_of g.E.Sink.broken g.E.Sink.held c.args.streams.now.errors c.tell_version.new.errors c.tell_version.result
+    told_of g.E.Sink.broken g.E.Sink.held c.args.streams.now.errors c.print_version.new.errors c.print_version.result
     (line_run (map string_bytes c.args.words.now)) None
-    (no_version_line (map string_bytes c.args.words.now) (sym c.wants_version.ensures ∙ c.if-wants_version.true)) c.tell_version.ensures.told
+    (no_version_line (map string_bytes c.args.words.now) (sym c.wants_version.ensures ∙ c.if-wants_version.true)) c.print_version.ensures.told
 
 pub returns-clause-ends : goal.returns-clause-ends
 returns-clause-ends g c =
     other_asked (map string_bytes c.args.words.now) c.args.now (g.R.Source.left c.args.streams.now.source) (g.W.Sink.held c.args.streams.now.sink)
-    (g.W.Sink.held c.tell_help_or_run.new.streams.sink) c.tell_help_or_run.result (sym c.wants_version.ensures ∙ c.if-wants_version.false) c.tell_help_or_run.ensures.ends
+    (g.W.Sink.held c.print_help_or_run.new.streams.sink) c.print_help_or_run.result (sym c.wants_version.ensures ∙ c.if-wants_version.false) c.print_help_or_run.ensures.ends
 
 pub returns-clause-told : goal.returns-clause-told
 returns-clause-told g c =
-    told_of g.E.Sink.broken g.E.Sink.held c.args.streams.now.errors c.tell_help_or_run.new.streams.errors c.tell_help_or_run.result
+    told_of g.E.Sink.broken g.E.Sink.held c.args.streams.now.errors c.print_help_or_run.new.streams.errors c.print_help_or_run.result
     (line_run (map string_bytes c.args.words.now))
     (line_asked (asks_help (map string_bytes c.args.words.now)) (map string_bytes c.args.words.now))
-    (no_version (map string_bytes c.args.words.now) (sym c.wants_version.ensures ∙ c.if-wants_version.false)) c.tell_help_or_run.ensures.told
+    (no_version (map string_bytes c.args.words.now) (sym c.wants_version.ensures ∙ c.if-wants_version.false)) c.print_help_or_run.ensures.told

@@ -1,5 +1,5 @@
 use Rattle.dh_server.proofs.Told.{tells_both}
-use Rattle.docs_host.proofs.failure.tell_usage.Goals as goal
+use Rattle.docs_host.proofs.failure.print_usage.Goals as goal
 
 pub returns-clause-told : goal.returns-clause-told
 returns-clause-told g c =

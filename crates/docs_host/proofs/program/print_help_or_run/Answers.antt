@@ -4,19 +4,19 @@ use Rattle.dh_lines.specs.Lines.{line_in}
 use Rattle.docs_host.specs.Ends.{asks_help, line_asked}
 use Rattle.docs_host.proofs.Ending.{no_line, its_line, help_asked, line_asked_for}
 use Rattle.docs_host.proofs.Telling.{told_of}
-use Rattle.docs_host.proofs.program.tell_help_or_run.Goals as goal
+use Rattle.docs_host.proofs.program.print_help_or_run.Goals as goal
 
 pub returns-in-Some-clause-ends : goal.returns-in-Some-clause-ends
 returns-in-Some-clause-ends g c =
     help_asked (map string_bytes c.args.words.now) c.args.now (g.R.Source.left c.args.streams.now.source) (g.W.Sink.held c.args.streams.now.sink)
-    (g.W.Sink.held c.tell_help.new.sink) c.tell_help.result (map string_bytes c.in-Some.names.now)
-    c.in-Some.ensures.0 c.in-Some.ensures.1 c.tell_help.ensures.ends
+    (g.W.Sink.held c.print_help.new.sink) c.print_help.result (map string_bytes c.in-Some.names.now)
+    c.in-Some.ensures.0 c.in-Some.ensures.1 c.print_help.ensures.ends
 
 pub returns-in-Some-clause-told : goal.returns-in-Some-clause-told
 returns-in-Some-clause-told g c =
-    told_of g.E.Sink.broken g.E.Sink.held c.args.streams.now.errors c.tell_help.new.errors c.tell_help.result
+    told_of g.E.Sink.broken g.E.Sink.held c.args.streams.now.errors c.print_help.new.errors c.print_help.result
     (line_asked (asks_help (map string_bytes c.args.words.now)) (map string_bytes c.args.words.now)) None (no_line (map string_bytes c.args.words.now) c.in-Some.ensures.0)
-    c.tell_help.ensures.told
+    c.print_help.ensures.told
 
 pub returns-in-None-clause-ends : goal.returns-in-None-clause-ends
 returns-in-None-clause-ends g c =
