@@ -1,7 +1,7 @@
 //! HTTP requests: how they are read, and what they ask for.
 #![tactic(auto)]
 
-pub mod asked;
+pub mod wanted;
 mod asking;
 mod body;
 pub mod cause;

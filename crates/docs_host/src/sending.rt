@@ -56,7 +56,7 @@ fn read_answer<R: Source>(source: &mut R, answer: &mut Vec<u8>) -> bool
         (λ input. answer.new.items ≡ answer.old.items ++ input) }
 {
     let mut room = [0u8; ANSWER_SIZE];
-    'pieces: for _ in 0..u64::MAX {
+    for _ in 0..u64::MAX {
         match source.fill(&mut room) {
             Ok(0) => return true,
             Ok(count) => {

@@ -568,7 +568,7 @@ fn serve_left<N: Listen, C: FnMut() -> u64, L: Write, E: Sink>(
 {
     let mut failed = failed;
     let mut left = count;
-    'openings: for _ in 0..count.saturating_add(1) {
+    for _ in 0..count.saturating_add(1) {
         let fewer = serve_again(
             rt,
             file,

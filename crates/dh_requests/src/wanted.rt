@@ -18,7 +18,7 @@ pub struct Posted {
 
 /// What a head asks for.
 #[derive(Drop)]
-pub enum Asked {
+pub enum Wanted {
     /// A request that is whole with its head.
     Whole(Request),
     /// A command, whose body follows the head.
