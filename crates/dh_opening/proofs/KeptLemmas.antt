@@ -1,10 +1,12 @@
 -- Records and the rows that keep them.
-use Rattle.std.proofs.Common.{◌≡◌, ℕ, List, [], ◌∷◌, ◌++◌, map, length, Bool, true, false, IsTrue, ◌↔◌, refl, sym, subst, arith, ap₂, ◌∙◌, Less}
+use Rattle.std.proofs.Common.{◌≡◌, ℕ, List, [], ◌∷◌, ◌++◌, map, length, Bool, true, false, IsTrue, ◌↔◌, refl, sym, subst, arith, ap, ap₂, ◌∙◌, Less}
 use Rattle.std.specs.List.{AllByRecursion}
 use Rattle.sqlite_value.specs.Order.{Row, row_cmp}
+use Rattle.sqlite_schema.specs.declared.schema.Table.{Table}
 use Rattle.sqlite_trees.specs.Tree.{IsAscending}
 use Rattle.sqlite_keyed.proofs.ListLemmas.{ascending-map, ascending_from_map, ascending_weaker}
 use Rattle.dh_rows.specs.Keyed.{Coding, by_key}
+use Rattle.dh_rows.proofs.Whole.{IsCodingOf}
 use Rattle.dh_opening.specs.Rows.{part}
 use Rattle.dh_opening.specs.Opening.{IsKeptAs, AreKept}
 
@@ -18,6 +20,10 @@ some_among f P [] rest row [] e all = absurd (cc)
 some_among f P [] rest row (x ∷ xs) e all = let same : row ≡ f x = cc in (x, same, all.0)
 some_among f P (r ∷ front) rest row [] e all = absurd (cc)
 some_among f P (r ∷ front) rest row (x ∷ xs) e all = let behind : front ++ row ∷ rest ≡ map f xs = cc in some_among f P front rest row xs behind all.1
+
+-- the columns of a key at these places
+pub key_at : {t : Table} {X : Type 0} {c : Coding X} {order places : List ℕ} → IsCodingOf t c order → places ≡ order → (x : X) → part places (c.encode x) ≡ c.key x
+key_at {c = c} coding is x = ap (λ (at : List ℕ). part at (c.encode x)) is ∙ coding.keys x
 
 module _ {X : Type 0} (c : Coding X) (IsTyped : X → Type 0) (places : List ℕ) (same : (x : X) → part places (c.encode x) ≡ c.key x) where
   abbrev Rows : List Row → Type 0

@@ -7,6 +7,7 @@ pub mod JudgedLemmas
 pub mod ThinLemmas
 pub mod RetryKeyLemmas
 pub mod RowidsTaken
+pub mod EachTable
 pub mod Spelling
 pub mod OpenLemmas
 pub mod FillLemmas

@@ -1,5 +1,5 @@
 -- What becomes of tables of schema 1 as a whole.
-use Rattle.std.proofs.Common.{◌≡◌, inl, inr, ℕ, Bool, List, [], codes, map, Result, Ok, sym, ap, subst, ◌∙◌}
+use Rattle.std.proofs.Common.{◌≡◌, inl, inr, ℕ, Bool, List, codes, map, Result, Ok, sym, ap, subst, ◌∙◌}
 use Rattle.sqlite_keyed.proofs.ListLemmas.{ascending-map}
 use Rattle.sqlite_trees.specs.declared.store.Store.{Ghosts}
 use Rattle.sqlite.specs.Effect.{Database, IsDatabase}
@@ -20,6 +20,7 @@ use Rattle.dh_migrating.specs.declared.old_pass.OldPassRow.{OldPassRow}
 use Rattle.dh_opening.specs.Opening.{AreKeptIn, IsDerivedBy, IsNumbered, IsOurs, MayDerive, StandFor, JudgesTables}
 use Rattle.dh_opening.specs.Filling.{IsFilled}
 use Rattle.dh_opening.specs.Migrating.{AreOldIn, IsMigrated, IsOld, IsShown}
+use Rattle.dh_opening.proofs.EachTable.{lists_told}
 use Rattle.dh_opening.proofs.FillLemmas.{old_brought}
 use Rattle.dh_opening.proofs.Spelling.{other_number}
 
@@ -41,23 +42,7 @@ convertible db sound old = record {
 module _ (db : Database) (rows : List OldPassRow) (l : Lists) (pass : StandFor old_passes IsOldPass (codes "pass") db rows) (kept : AreKeptIn db l) (passes : l.passes ≡ map without_end rows) (plain : base_of l ≡ l) where
   -- these are the lists of schema 1
   lists_are : l ≡ old_lists_of db
-  lists_are = sym plain ∙ same
-    where
-      same : base_of l ≡ old_lists_of db
-      same i = record {
-        projects = sym kept.spelled.projects.records i;
-        langs = sym kept.spelled.langs.records i;
-        versions = sym kept.spelled.versions.records i;
-        pages = sym kept.spelled.pages.records i;
-        used = sym kept.spelled.used.records i;
-        picks = sym kept.spelled.picks.records i;
-        passes = (passes ∙ ap (map without_end) (sym pass.records)) i;
-        held = sym kept.spelled.held.records i;
-        rules = sym kept.spelled.rules.records i;
-        redirects = sym kept.spelled.redirects.records i;
-        aliases = [];
-        routes = [];
-      }
+  lists_are = sym plain ∙ sym (lists_told db l (old_lists_of db).passes kept.spelled (ap (map without_end) pass.records ∙ sym passes))
 
   pub found_old : AreOldIn db.schema → MayDerive db → IsNumbered db 1 → IsOld db × (l ≡ old_lists_of db)
   found_old tables derived number = (

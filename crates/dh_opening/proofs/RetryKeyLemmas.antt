@@ -10,7 +10,7 @@ use Rattle.dh_constraints.specs.Keys.{IsFitKey}
 use Rattle.dh_opening.specs.declared.keys.JudgedKeys.{JudgedKeys}
 use Rattle.dh_opening.specs.Judged.{IsNewest}
 use Rattle.dh_opening.specs.Opening.{IsKeptAs}
-use Rattle.dh_opening.specs.Readings.{used_suits}
+use Rattle.dh_opening.specs.OurTables.{used_reads}
 use Rattle.dh_opening.specs.RetryKeys.{AreFitKeys, FindsNextKey, HasJudged, KeepsFitKey, TookKeys}
 use Rattle.dh_opening.specs.Rows.{IsNext}
 use Rattle.dh_opening.proofs.JudgedLemmas.{next_more, none_next}
@@ -18,7 +18,7 @@ use Rattle.dh_opening.proofs.JudgedLemmas.{next_more, none_next}
 -- a row keeps one answer
 same_answer : (row : Row) (x y : RetryRow) → row ≡ used.encode x → row ≡ used.encode y → x ≡ y
 same_answer row x y is too =
-    sym (used_suits.back x (pos 0)) ∙ ap (λ (r : Row). used.decode (Int (pos 0) ∷ r)) (sym is ∙ too) ∙ used_suits.back y (pos 0)
+    sym (used_reads.suits.back x (pos 0)) ∙ ap (λ (r : Row). used.decode (Int (pos 0) ∷ r)) (sym is ∙ too) ∙ used_reads.suits.back y (pos 0)
 
 -- where the answer that a row keeps does not keep the constraints, no other of the row does
 pub none_fits : (projects : List ProjectRow) (row : Row) (x : RetryRow) → IsKeptAs used IsUsed row x → ¬ IsFitKey projects x → (y : RetryRow) → ¬ KeepsFitKey projects row y

@@ -15,8 +15,10 @@ use Rattle.dh_records.specs.declared.records.AliasRow.{AliasRow}
 use Rattle.dh_records.specs.declared.records.RouteRow.{RouteRow}
 use Rattle.dh_schema.specs.Making.{derived_tables}
 use Rattle.dh_schema.specs.Tables.{lists_of, meta, meta_table, pass_table}
-use Rattle.dh_opening.specs.Opening.{AreKeptIn, AreSpelled, CanDeriveAnew, HasDerived, IsDerivedBy, IsNumbered, IsOurs, IsSpelledBy, MayDerive, StandFor, other_tables}
+use Rattle.dh_opening.specs.Opening.{AreKeptIn, AreSpelled, CanDeriveAnew, HasDerived, IsDerivedBy, IsNumbered, IsOurs, IsSpelledBy, MayDerive, StandFor}
+use Rattle.dh_opening.specs.OurTables.{other_tables}
 use Rattle.dh_opening.specs.Filling.{LacksDerived}
+use Rattle.dh_opening.proofs.EachTable.{lists_told, spelled_are}
 
 -- the one row of the table with the number
 abbrev pub Numbers : Database → List ℕ → Type 0
@@ -43,20 +45,7 @@ two_not_one db two one = let same : ◌≡◌ {A = ℕ} 2 1 = other_number db 2 
 
 -- with the same passes they spell one world
 pub same_lists : (db : Database) (l m : Lists) → AreSpelled db l → AreSpelled db m → l.passes ≡ m.passes → base_of l ≡ base_of m
-same_lists db l m it too passes i = record {
-  projects = (sym it.projects.records ∙ too.projects.records) i;
-  langs = (sym it.langs.records ∙ too.langs.records) i;
-  versions = (sym it.versions.records ∙ too.versions.records) i;
-  pages = (sym it.pages.records ∙ too.pages.records) i;
-  used = (sym it.used.records ∙ too.used.records) i;
-  picks = (sym it.picks.records ∙ too.picks.records) i;
-  passes = passes i;
-  held = (sym it.held.records ∙ too.held.records) i;
-  rules = (sym it.rules.records ∙ too.rules.records) i;
-  redirects = (sym it.redirects.records ∙ too.redirects.records) i;
-  aliases = [];
-  routes = [];
-}
+same_lists db l m it too passes = sym (spelled_are db l it) ∙ lists_told db m l.passes too passes
 
 -- lists that break a constraint are kept with no other name
 pub not_kept : (db : Database) (l : Lists) → AreSpelled db l → (b : Bool) → (KeepsConstraints l → IsTrue b) → b ≡ false → (m : Lists) → m.passes ≡ l.passes → ¬ AreKeptIn db m
@@ -67,23 +56,7 @@ not_kept db l it b keeps none m passes kept =
 module _ (db : Database) (l : Lists) (plain : base_of l ≡ l) (kept : AreKeptIn db l) (pass : StandFor passes IsPass (codes "pass") db l.passes) where
   -- these are the lists of the tables, but for the derived ones
   lists_are : l ≡ base_of (lists_of db)
-  lists_are = sym plain ∙ same
-    where
-      same : base_of l ≡ base_of (lists_of db)
-      same i = record {
-        projects = sym kept.spelled.projects.records i;
-        langs = sym kept.spelled.langs.records i;
-        versions = sym kept.spelled.versions.records i;
-        pages = sym kept.spelled.pages.records i;
-        used = sym kept.spelled.used.records i;
-        picks = sym kept.spelled.picks.records i;
-        passes = sym pass.records i;
-        held = sym kept.spelled.held.records i;
-        rules = sym kept.spelled.rules.records i;
-        redirects = sym kept.spelled.redirects.records i;
-        aliases = [];
-        routes = [];
-      }
+  lists_are = sym plain ∙ sym (lists_told db l (lists_of db).passes kept.spelled pass.records)
 
   pub made_ours : AllByRecursion (StandsAlone db.schema) (pass_table ∷ other_tables) → MayDerive db → IsNumbered db 2 → IsOurs db
   made_ours alone derived number = record {

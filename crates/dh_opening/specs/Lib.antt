@@ -1,5 +1,5 @@
 pub mod Rows
-pub mod Readings
+pub mod OurTables
 pub mod Opening
 pub mod Gathering
 pub mod Judged

@@ -12,7 +12,8 @@ use Rattle.dh_schema.specs.Tables.{lists_of}
 use Rattle.dh_migrating.specs.Converting.{CanConvert}
 use Rattle.dh_migrating.specs.OldPasses.{old_pass_table, old_passes, old_lists_of, IsOldPass}
 use Rattle.dh_opening.specs.declared.fault.TablesFault.{TablesFault}
-use Rattle.dh_opening.specs.Opening.{AreKeptIn, IsNumbered, IsOurs, MayDerive, OnOldSchema, StandFor, other_tables}
+use Rattle.dh_opening.specs.Opening.{AreKeptIn, IsNumbered, IsOurs, MayDerive, OnOldSchema, StandFor}
+use Rattle.dh_opening.specs.OurTables.{other_tables}
 use Rattle.dh_opening.specs.Filling.{BringsBy, IsBrought, IsOpened, KeepsDerived, LacksDerived, LeavesBrought}
 
 -- The table of passes as schema 1 made it and our other tables stand alone, and the first can be dropped.

@@ -18,16 +18,17 @@ use Rattle.dh_rows.specs.Whole.{SpellsRecords}
 use Rattle.dh_records.specs.Codings as coding
 use Rattle.dh_records.specs.Constraints.{KeepsConstraints}
 use Rattle.dh_records.specs.Lists.{Lists, base_of}
-use Rattle.dh_records.specs.Typed.{IsProject, IsLanguage, IsVersion, IsPage, IsUsed, IsPick, IsPass, IsHeld, IsRule, IsRedirect, IsAlias, IsRoute}
+use Rattle.dh_records.specs.Typed.{IsPass, IsAlias, IsRoute}
 use Rattle.sqlite_schema.specs.declared.schema.Schema.{Schema}
 use Rattle.sqlite_schema.specs.declared.schema.Table.{Table}
-use Rattle.dh_schema.specs.Tables.{lists_of, meta, meta_table, rule_table, redirect_table, project_table, lang_table, version_table, page_table, used_table, pick_table, pass_table, holds_table}
+use Rattle.dh_schema.specs.Tables.{lists_of, meta, meta_table, pass_table}
 use Rattle.dh_schema.specs.Making.{derived_tables}
 use Rattle.dh_ports.specs.declared.fault.Fault.TheVariants as fault
 use Rattle.dh_opening.specs.declared.fault.TablesFault.{TablesFault}
 use Rattle.dh_opening.specs.declared.fault.TablesFault.TheVariants.{NotOurs, OldSchema, Failed}
 use Rattle.dh_opening.specs.declared.opening.Found.{Found}
 use Rattle.dh_opening.specs.declared.opening.Found.TheVariants.{Old, Ours}
+use Rattle.dh_opening.specs.OurTables.{OfEach, other_tables}
 
 -- ---- records
 
@@ -66,22 +67,9 @@ pub record IsNumbered (db : Database) (number : ℕ) : Type 0 where
   pub alone : StandsAlone db.schema meta_table
   pub stands : StandFor meta (λ n. n < 2 ^ 32) (codes "meta") db (number ∷ [])
 
--- our tables but those of the number, of passes and of derived records, in the order in which they are made
-abbrev pub other_tables : List Table
-other_tables =
-    rule_table ∷ redirect_table ∷ project_table ∷ lang_table ∷ version_table ∷ page_table ∷ used_table ∷ pick_table ∷ holds_table ∷ []
-
 -- The rows of our tables stand for these records; nothing is said of passes.
-pub record AreSpelled (db : Database) (l : Lists) : Type 0 where
-  pub projects : StandFor coding.projects IsProject (codes "project") db l.projects
-  pub langs : StandFor coding.langs IsLanguage (codes "lang") db l.langs
-  pub versions : StandFor coding.versions IsVersion (codes "version") db l.versions
-  pub pages : StandFor coding.pages IsPage (codes "page") db l.pages
-  pub used : StandFor coding.used IsUsed (codes "used") db l.used
-  pub picks : StandFor coding.picks IsPick (codes "pick") db l.picks
-  pub held : StandFor coding.held IsHeld (codes "holds") db l.held
-  pub rules : StandFor coding.rules IsRule (codes "rule") db l.rules
-  pub redirects : StandFor coding.redirects IsRedirect (codes "redirect") db l.redirects
+abbrev pub AreSpelled : Database → Lists → Type 0
+AreSpelled db = OfEach (λ X t c IsTyped xs. StandFor c IsTyped t.name db xs)
 
 -- The rows of our tables stand for these records, which keep the constraints.
 pub record AreKeptIn (db : Database) (l : Lists) : Type 0 where

@@ -11,7 +11,8 @@ ghost use Rattle.dh_opening.specs.Opening.{IsDerivedBy, IsOurs, OnNotOurs, OnOld
 ghost use Rattle.dh_opening.specs.Filling.{AreMadeAnew, BringsBy, IsAtRest, IsFilled, IsOpened, LacksDerived, LeavesOpened};
 
 use crate::fault::TablesFault;
-use crate::shapes::{ALIAS, ROUTE, can_drop};
+use crate::our_tables::{ALIAS, ROUTE};
+use crate::shapes::can_drop;
 use dh_ports::Fault;
 use dh_rows::{Shape, begin, change, commit, keeps_counts};
 use dh_schema::{can_add, make_derived};
@@ -37,8 +38,8 @@ fn make_anew<S: Alter>(conn: &mut Connection<S>) -> Result<(), Fault>
     ensures carries { CarriesTo S.Store conn.old conn.new result
         (AreMadeAnew (state S.Store conn.old).now) }
 {
-    drop_alone(conn, &ALIAS, "DROP TABLE alias")?;
-    drop_alone(conn, &ROUTE, "DROP TABLE route")?;
+    drop_alone(conn, &ALIAS.shape, "DROP TABLE alias")?;
+    drop_alone(conn, &ROUTE.shape, "DROP TABLE route")?;
     if can_add(conn.schema()) {
         make_derived(conn)
     } else {

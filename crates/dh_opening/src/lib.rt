@@ -12,6 +12,7 @@ mod migrating;
 mod number;
 mod old_pass;
 mod opening;
+mod our_tables;
 mod rowids;
 mod rows;
 mod shapes;

@@ -6,13 +6,15 @@ ghost use Rattle.dh_ports.specs.Faults.{OnStore};
 ghost use Rattle.dh_records.specs.Codings.{number_in};
 ghost use Rattle.dh_records.specs.Typed.{IsNumber};
 ghost use Rattle.dh_schema.specs.Tables as spec;
-ghost use Rattle.dh_opening.specs.Readings as readings;
+ghost use Rattle.dh_opening.specs.OurTables as ours;
 
-use crate::kept::Kept;
+use crate::kept::{Kept, Layout};
 use crate::rows::has_values;
 use dh_ports::Fault;
 use dh_records::{Record, number_at, show_number};
+use dh_rows::Shape;
 use sqlite::{Row, params};
+use sqlite_schema::schema::Kind;
 use std::alloc::{AllocError, Global};
 use std::marker::Model;
 
@@ -40,35 +42,31 @@ impl Record for Number {
     }
 }
 
+/// The table of the number.
+pub const META: Layout = Layout {
+    shape: Shape {
+        name: b"meta",
+        primary: &[],
+        columns: &[(b"schema", Kind::Integer)],
+    },
+    ids: "SELECT rowid FROM meta ORDER BY rowid",
+    rows: "SELECT schema FROM meta",
+    key: &[],
+};
+
 impl Kept for Number {
     ghost table = { spec.meta_table };
 
-    ghost ids = { readings.meta_ids };
-
-    ghost rows = { readings.meta_rows };
-
     ghost order = { [] };
 
-    ghost kept = { spec.meta };
-
-    ghost reads = { readings.meta_reads };
-
-    ghost suits = { readings.meta_suits };
-
-    fn ids() -> &'static str {
-        "SELECT rowid FROM meta ORDER BY rowid"
-    }
-
-    fn rows() -> &'static str {
-        "SELECT schema FROM meta"
-    }
-
-    fn key() -> &'static [usize] {
-        &[]
+    fn layout() -> Layout {
+        META
     }
 
     fn is_kept_as(&self, _alloc: Global, row: &Row) -> Result<bool, AllocError> {
         show_number(self.number);
         Ok(has_values(row, params![self.number]))
     }
+
+    ghost reads = { ours.meta_reads };
 }

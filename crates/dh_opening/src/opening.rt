@@ -10,7 +10,8 @@ ghost use Rattle.dh_records.specs.Lists.{Lists, base_of};
 ghost use Rattle.dh_schema.specs.Making.{CanMake, CommitsNothing, IsMade, no_lists};
 ghost use Rattle.dh_schema.specs.Tables.{HoldsTables, lists_of};
 ghost use Rattle.dh_constraints.specs.Lists.{lists_in};
-ghost use Rattle.dh_opening.specs.Opening.{AreKeptIn, AreLaid, HasDerived, IsDerivedBy, IsFound, IsNumbered, IsOurs, MayDerive, JudgesTables, other_tables};
+ghost use Rattle.dh_opening.specs.Opening.{AreKeptIn, AreLaid, HasDerived, IsDerivedBy, IsFound, IsNumbered, IsOurs, MayDerive, JudgesTables};
+ghost use Rattle.dh_opening.specs.OurTables.{other_tables};
 ghost use Rattle.dh_opening.specs.ThinPages.{AreKeptWhole};
 ghost use Rattle.dh_opening.specs.Filling.{ChangesNothing, IsOpened, KeepsDerived, LacksDerived, LeavesOpened, OpensTables};
 

@@ -15,13 +15,15 @@ ghost use Rattle.dh_schema.specs.Making.{derived_tables};
 ghost use Rattle.dh_schema.specs.Tables.{page_table, used_table};
 ghost use Rattle.dh_opening.specs.RetryKeys.{HasKeys};
 ghost use Rattle.dh_opening.specs.ThinPages.{AreThinIn, HasPages, HasThin, IsFit};
-ghost use Rattle.dh_opening.specs.Opening.{AnswersQuery, AreLaid, AreSpelled, AreTold, HasDerived, IsNumbered, IsSpelledBy, IsWhole, JudgesTables, StandFor, other_tables};
+ghost use Rattle.dh_opening.specs.Opening.{AnswersQuery, AreLaid, AreSpelled, AreTold, HasDerived, IsNumbered, IsSpelledBy, IsWhole, JudgesTables, StandFor};
+ghost use Rattle.dh_opening.specs.OurTables.{other_tables};
 
 use crate::fault::TablesFault;
 use crate::gathering::gather;
 use crate::kept::{Kept, records_in};
 use crate::keys::JudgedKeys;
 use crate::number::Number;
+use crate::our_tables::{PAGE, USED};
 use crate::rowids::Rowids;
 use crate::shapes::has_number;
 use crate::thin_pages::ThinPages;
@@ -72,8 +74,9 @@ fn spelled_by<S: Alter, R: Kept>(
         (IsSpelledBy R.Record.coding R.Record.typed R.Kept.table.name) (λ _. ⊥) }
     ensures order { IfOk result (λ o. IfSome o (λ v. InOrder R.Record.coding.key v.items)) }
 {
-    let ids = select(conn, R::ids())?;
-    let rows = select(conn, R::rows())?;
+    let layout = R::layout();
+    let ids = select(conn, layout.ids)?;
+    let rows = select(conn, layout.rows)?;
     Ok(records_of(alloc, ids.as_slice(), rows)?)
 }
 
@@ -169,9 +172,9 @@ fn read_pages<S: Alter>(
         (λ db v. HasThin db v.items) (λ db. (xs : List PageRow) → ¬ HasPages db xs) }
     ensures order { IfOk result (λ v. InOrder coding.pages.key v.items) }
 {
-    let rise = have_rowids(conn, alloc, PageRow::ids())?;
+    let rise = have_rowids(conn, alloc, PAGE.ids)?;
     let mut found = ThinPages::new(alloc);
-    gather(conn, alloc, PageRow::rows(), &mut found)?;
+    gather(conn, alloc, PAGE.rows, &mut found)?;
     if !rise {
         return Err(TablesFault::NotOurs);
     }
@@ -193,9 +196,9 @@ fn judge_keys<S: Alter>(
         (λ db. (keys : List RetryRow) → ¬ HasKeys projects.rows.items db keys) }
     ensures same { IfOk result (λ p. p ≡ projects) }
 {
-    let rise = have_rowids(conn, alloc, RetryRow::ids())?;
+    let rise = have_rowids(conn, alloc, USED.ids)?;
     let mut judged = JudgedKeys::beside(projects);
-    gather(conn, alloc, RetryRow::rows(), &mut judged)?;
+    gather(conn, alloc, USED.rows, &mut judged)?;
     if !rise {
         return Err(TablesFault::NotOurs);
     }

@@ -8,7 +8,8 @@ use Rattle.dh_records.specs.Lists.{base_of}
 use Rattle.dh_records.specs.Typed.{IsPass}
 use Rattle.dh_rows.specs.Shapes.{StandsAlone}
 use Rattle.dh_schema.specs.Tables.{lists_of, pass_table}
-use Rattle.dh_opening.specs.Opening.{StandFor, other_tables}
+use Rattle.dh_opening.specs.Opening.{StandFor}
+use Rattle.dh_opening.specs.OurTables.{other_tables}
 use Rattle.dh_opening.specs.ThinPages.{made_whole}
 use Rattle.dh_opening.proofs.Looks.{handed, laid_on, opens_as, opens_both, refused_at_once}
 use Rattle.dh_opening.proofs.Spelling.{made_ours, may_derive, not_alone}

@@ -3,8 +3,7 @@ use Rattle.sqlite.specs.Held.{state}
 use Rattle.dh_constraints.specs.Keys.{IsFitKey}
 use Rattle.dh_constraints.specs.declared.projects.Projects.{Projects}
 use Rattle.dh_records.specs.Typed.{IsUsed}
-use Rattle.dh_opening.specs.Opening.{AnswersQuery, IsWhole}
-use Rattle.dh_opening.specs.Readings.{used_reads, used_suits}
+use Rattle.dh_opening.specs.OurTables.{used_reads}
 use Rattle.dh_opening.specs.RetryKeys.{AreFitKeys}
 use Rattle.dh_opening.proofs.JudgedLemmas.{fit_found, no_rowids, none_fit}
 use Rattle.dh_opening.proofs.Looks.{laid_on, opens_on, then_not_ours, then_ok}
@@ -13,11 +12,11 @@ use Rattle.dh_opening.proofs.ThinLemmas.{not_so}
 use Rattle.dh_opening.proofs.tables.judge_keys.Goals as goal
 
 pub have_rowids-requires : goal.have_rowids-requires
-have_rowids-requires g c = record { whole = λ honest. subst (IsWhole (state g.S.Store c.args.conn.now)) (sym c.ids.ensures) (whole_ids used_reads (state g.S.Store c.args.conn.now) (c.requires.laid honest)) }
+have_rowids-requires g c = record { whole = λ honest. whole_ids used_reads.texts (state g.S.Store c.args.conn.now) (c.requires.laid honest) }
 
 pub gather-requires-clause-whole : goal.gather-requires-clause-whole
 gather-requires-clause-whole g c honest =
-    subst (IsWhole (state g.S.Store c.have_rowids.new.conn)) (sym c.rows.ensures.text) (whole_rows used_reads (state g.S.Store c.have_rowids.new.conn) (laid_on c.in_ok-rise.rise c.in_ok-rise.ensures.opens c.requires.laid honest))
+    whole_rows used_reads.texts (state g.S.Store c.have_rowids.new.conn) (laid_on c.in_ok-rise.rise c.in_ok-rise.ensures.opens c.requires.laid honest)
 
 pub gather-requires-clause-start : goal.gather-requires-clause-start
 gather-requires-clause-start g c = c.beside-judged.ensures.1
@@ -27,7 +26,7 @@ returns-then-not-rise-clause-opens g c =
     let s = state g.S.Store c.args.conn.now in
     then_not_ours c.in_ok-gather.field-0 (opens_on c.in_ok-rise.rise (Ok c.in_ok-gather.field-0) c.in_ok-rise.ensures.opens c.in_ok-gather.ensures.opens)
     (λ honest it.
-    no_rowids used_reads s (c.requires.laid honest) IsUsed (IsFitKey c.args.projects.rows.items) used_suits it.0.0 it.1.0 (subst (λ t. AnswersQuery s.now t it.0.0) c.ids.ensures it.0.1) (subst (λ t. AnswersQuery s.now t it.1.0) c.rows.ensures.text it.1.1)
+    no_rowids used_reads.texts s (c.requires.laid honest) IsUsed (IsFitKey c.args.projects.rows.items) used_reads.suits it.0.0 it.1.0 it.0.1 it.1.1
     (not_so c.in_ok-rise.rise it.0.2.1 c.if-not-rise.true))
 
 pub returns-in-Some-clause-opens : goal.returns-in-Some-clause-opens
@@ -38,7 +37,7 @@ returns-in-Some-clause-opens g c =
     let has = it.1.2.kept c.in-Some.ensures.some.0 in
     let same : c.gather.new.taker.projects ≡ c.args.projects = it.1.2.same ∙ c.beside-judged.ensures.0 in (
       has.all,
-      fit_found used_reads s (c.requires.laid honest) IsUsed (IsFitKey c.args.projects.rows.items) used_suits it.0.0 it.1.0 (subst (λ t. AnswersQuery s.now t it.0.0) c.ids.ensures it.0.1) (subst (λ t. AnswersQuery s.now t it.1.0) c.rows.ensures.text it.1.1)
+      fit_found used_reads.texts s (c.requires.laid honest) IsUsed (IsFitKey c.args.projects.rows.items) used_reads.suits it.0.0 it.1.0 it.0.1 it.1.1
           (it.0.2.0 c.if-not-rise.false) has.all (subst (λ (p : Projects). AreFitKeys p.rows.items it.1.0 has.all) same has.fit),
     ))
 
@@ -51,5 +50,5 @@ returns-in-None-clause-opens g c =
     then_not_ours c.in_ok-gather.field-0 (opens_on c.in_ok-rise.rise (Ok c.in_ok-gather.field-0) c.in_ok-rise.ensures.opens c.in_ok-gather.ensures.opens)
     (λ honest it.
     let same : c.gather.new.taker.projects ≡ c.args.projects = it.1.2.same ∙ c.beside-judged.ensures.0 in
-    none_fit used_reads s (c.requires.laid honest) IsUsed (IsFitKey c.args.projects.rows.items) used_suits it.0.0 it.1.0 (subst (λ t. AnswersQuery s.now t it.0.0) c.ids.ensures it.0.1) (subst (λ t. AnswersQuery s.now t it.1.0) c.rows.ensures.text it.1.1)
+    none_fit used_reads.texts s (c.requires.laid honest) IsUsed (IsFitKey c.args.projects.rows.items) used_reads.suits it.0.0 it.1.0 it.0.1 it.1.1
     (λ xs fit. it.1.2.none (c.into_projects.ensures.none c.in-None.is) xs (subst (λ (p : Projects). AreFitKeys p.rows.items it.1.0 xs) (sym same) fit)))

@@ -4,8 +4,7 @@ use Rattle.dh_records.specs.Codings.{pages}
 use Rattle.dh_records.specs.Constraints.{InOrder}
 use Rattle.dh_records.specs.Typed.{IsPage}
 use Rattle.dh_records.specs.declared.records.PageRow.{PageRow}
-use Rattle.dh_opening.specs.Opening.{AnswersQuery, IsWhole}
-use Rattle.dh_opening.specs.Readings.{page_reads, page_suits}
+use Rattle.dh_opening.specs.OurTables.{page_reads}
 use Rattle.dh_opening.specs.ThinPages.{IsFit}
 use Rattle.dh_opening.proofs.JudgedLemmas.{fit_found, no_rowids, none_fit}
 use Rattle.dh_opening.proofs.Looks.{laid_on, opens_on, then_not_ours, then_ok}
@@ -14,18 +13,18 @@ use Rattle.dh_opening.proofs.ThinLemmas.{not_so, thin_rise}
 use Rattle.dh_opening.proofs.tables.read_pages.Goals as goal
 
 pub have_rowids-requires : goal.have_rowids-requires
-have_rowids-requires g c = record { whole = λ honest. subst (IsWhole (state g.S.Store c.args.conn.now)) (sym c.ids.ensures) (whole_ids page_reads (state g.S.Store c.args.conn.now) (c.requires.laid honest)) }
+have_rowids-requires g c = record { whole = λ honest. whole_ids page_reads.texts (state g.S.Store c.args.conn.now) (c.requires.laid honest) }
 
 pub gather-requires-clause-whole : goal.gather-requires-clause-whole
 gather-requires-clause-whole g c honest =
-    subst (IsWhole (state g.S.Store c.have_rowids.new.conn)) (sym c.rows.ensures.text) (whole_rows page_reads (state g.S.Store c.have_rowids.new.conn) (laid_on c.in_ok-rise.rise c.in_ok-rise.ensures.opens c.requires.laid honest))
+    whole_rows page_reads.texts (state g.S.Store c.have_rowids.new.conn) (laid_on c.in_ok-rise.rise c.in_ok-rise.ensures.opens c.requires.laid honest)
 
 pub returns-then-not-rise-clause-opens : goal.returns-then-not-rise-clause-opens
 returns-then-not-rise-clause-opens g c =
     let s = state g.S.Store c.args.conn.now in
     then_not_ours c.in_ok-gather.field-0 (opens_on c.in_ok-rise.rise (Ok c.in_ok-gather.field-0) c.in_ok-rise.ensures.opens c.in_ok-gather.ensures.opens)
     (λ honest it.
-    no_rowids page_reads s (c.requires.laid honest) IsPage IsFit page_suits it.0.0 it.1.0 (subst (λ t. AnswersQuery s.now t it.0.0) c.ids.ensures it.0.1) (subst (λ t. AnswersQuery s.now t it.1.0) c.rows.ensures.text it.1.1)
+    no_rowids page_reads.texts s (c.requires.laid honest) IsPage IsFit page_reads.suits it.0.0 it.1.0 it.0.1 it.1.1
     (not_so c.in_ok-rise.rise it.0.2.1 c.if-not-rise.true))
 
 pub returns-in-Some-clause-opens : goal.returns-in-Some-clause-opens
@@ -35,7 +34,7 @@ returns-in-Some-clause-opens g c =
     (λ honest it.
     let has = it.1.2.kept c.in-Some.ensures.some.0 in (
       has.all,
-      fit_found page_reads s (c.requires.laid honest) IsPage IsFit page_suits it.0.0 it.1.0 (subst (λ t. AnswersQuery s.now t it.0.0) c.ids.ensures it.0.1) (subst (λ t. AnswersQuery s.now t it.1.0) c.rows.ensures.text it.1.1)
+      fit_found page_reads.texts s (c.requires.laid honest) IsPage IsFit page_reads.suits it.0.0 it.1.0 it.0.1 it.1.1
           (it.0.2.0 c.if-not-rise.false) has.all has.fit,
       ap (λ (v : Vec PageRow Global). v.items) c.in-Some.ensures.some.1 ∙ has.found,
     ))
@@ -50,5 +49,5 @@ returns-in-None-clause-opens g c =
     let s = state g.S.Store c.args.conn.now in
     then_not_ours c.in_ok-gather.field-0 (opens_on c.in_ok-rise.rise (Ok c.in_ok-gather.field-0) c.in_ok-rise.ensures.opens c.in_ok-gather.ensures.opens)
     (λ honest it.
-    none_fit page_reads s (c.requires.laid honest) IsPage IsFit page_suits it.0.0 it.1.0 (subst (λ t. AnswersQuery s.now t it.0.0) c.ids.ensures it.0.1) (subst (λ t. AnswersQuery s.now t it.1.0) c.rows.ensures.text it.1.1)
+    none_fit page_reads.texts s (c.requires.laid honest) IsPage IsFit page_reads.suits it.0.0 it.1.0 it.0.1 it.1.1
     (it.1.2.none (c.into_pages.ensures.none c.in-None.is)))
