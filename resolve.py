@@ -1,6 +1,8 @@
 #!/usr/bin/env python3
 """Looks for each import of a crate's specs/ and proofs/ in a checkout: whether the file, the module or the folder is there, and in a
-file each name that is imported. It proves nothing; a run takes two seconds. usage: resolve.py REPOSITORY"""
+file each name that is imported; and for each name that a file of src/ takes of a module or of another crate: whether it is declared
+or offered there, and whether crates.txt gives the crate that other one. It proves nothing; a run takes three seconds.
+usage: resolve.py REPOSITORY"""
 import re
 import sys
 from pathlib import Path
@@ -66,4 +68,75 @@ for file in sorted(it for ending in ("*.rt", "*.antt") for it in (root / "crates
         if fault:
             missing += 1
             print(f"{file.relative_to(root)}: Rattle.{crate}{path}: {fault}")
+# ---- names of Rust
+
+from move import USE, leaves_of  # noqa: E402
+
+order, libraries = [], {}
+for line in (root / "crates.txt").read_text(encoding="utf-8").split("\n"):
+    name, colon, rest = line.partition("#")[0].partition(":")
+    if colon:
+        order.append(name.split()[0])
+        libraries[order[-1]] = rest.split()
+roots = {name: next((it / "src" / head for head in ("lib.rt", "main.rt") if (it / "src" / head).is_file()), None) for name, it in crates.items()}
+DECLARES = r"(?:fn|struct|enum|trait|type|mod|const|static|macro_rules!) {0}\b"
+
+
+def offered(crate):
+    """What other crates may take of one."""
+    found = set()
+    for it in USE.finditer(text(roots[crate])):
+        if it["vis"] and not it["indent"]:
+            found |= {leaf.alias or leaf.path[-1] for leaf in leaves_of(it["tree"])}
+    return found | set(re.findall(r"^pub (?:fn|struct|enum|trait|type|const|mod|static) (\w+)", text(roots[crate]), re.M))
+
+
+def fault_of(path, here, file, must_be_public=True):
+    """Why a path of a `use` leads nowhere, or nothing."""
+    if path[0] in crates and path[0] != here:
+        if path[0] not in libraries.get(here, ()):
+            return f"crates.txt does not give {here} the crate {path[0]}"
+        if len(path) > 1 and path[1] not in ("*", "self", "specs", "proofs") and path[1] not in offered(path[0]):
+            return f"{path[0]} does not offer {path[1]}"
+    elif path[0] == "crate":
+        at, rest = root / "crates" / here / "src", list(path[1:])
+        while rest and ((at / rest[0]).is_dir() or (at / f"{rest[0]}.rt").is_file()):
+            at = at / rest.pop(0)
+        said = text(at.with_suffix(".rt")) if at.with_suffix(".rt").is_file() else text(roots[here])
+        if rest and rest[0] not in ("*", "self", "specs", "proofs"):
+            declared = re.search(DECLARES.format(re.escape(rest[0])), said) or rest[0] in {leaf.alias or leaf.path[-1] for it in USE.finditer(said) for leaf in leaves_of(it["tree"])}
+            if not declared and "macro" not in said:
+                return f"{at.relative_to(root)} has no {rest[0]}"
+    return None
+
+
+for name, folder in sorted(crates.items()):
+    for it in libraries.get(name, ()):
+        if it in order and order.index(it) > order.index(name):
+            print(f"crates.txt: {name} stands above {it}, which it names (no fault)")
+    for file in sorted((folder / "src").rglob("*.rt")) if name in libraries else []:
+        said = text(file)
+        module = file.relative_to(folder / "src").with_suffix("").parts
+        for it in USE.finditer(said):
+            for leaf in leaves_of(it["tree"]):
+                path = leaf.path
+                if file == roots[name] and path[0] not in ("crate", "self", "super") and path[0] not in crates and ((folder / "src" / f"{path[0]}.rt").is_file() or (folder / "src" / path[0]).is_dir()):
+                    path = ("crate", *path)
+                fault = fault_of(path, name, file)
+                if fault:
+                    missing += 1
+                    print(f"{file.relative_to(root)}: use {'::'.join(leaf.path)}: {fault}")
+        code = re.sub(r"^ *//.*", "", USE.sub("", said), flags=re.M)
+        for path in sorted(set(re.findall(r"(?<![\w:.`/])(\w+(?:::\w+)+)", code))):
+            parts = tuple(path.split("::"))
+            if parts[0] == "crate" or parts[0] in crates:
+                fault = fault_of(parts, name, file)
+                if fault:
+                    missing += 1
+                    print(f"{file.relative_to(root)}: {path}: {fault}")
+        if file == roots[name]:
+            for it in re.findall(r"^(?:pub(?:\([a-z]+\))? )?mod (\w+);", said, re.M):
+                if not (folder / "src" / f"{it}.rt").is_file() and not (folder / "src" / it / "mod.rt").is_file():
+                    missing += 1
+                    print(f"{file.relative_to(root)}: mod {it}: no such file")
 print(f"{missing} imports lead nowhere")

@@ -23,19 +23,29 @@ Part = namedtuple("Part", "name says modules specs lemmas")
 ITEMS = [
     ("by_server", "ControlFault", "faults"),
     ("lists", "ListFileFault", "faults"),
-    ("socket", "SocketFault", "faults"),
     ("orders", "say", "saying"),
 ]
 
-# What a new module says of itself.
-HEADS = {"faults": "Why the file of a list, a control socket or a server failed.", "saying": "Lines on standard output."}
+# Definitions that leave their file of specs/: the file, its definition, the new file.
+DEFINITIONS = [("Failures", "socket_name", "SocketFaults")]
 
+# What a new module, or a new file of specs/, says of itself.
+HEADS = {
+    "faults": "Why the file of a list or a server failed.",
+    "saying": "Lines on standard output.",
+    "SocketFaults": "The name of each fault of a control socket.",
+}
+
+# The lowest first.
 CRATES = [
+    Part("dh_sockets", "the control socket of a file: made, removed, and asked by a message", ["socket", "sending"], ["Exchanges", "SocketFaults", "Trust"], []),
     Part("dh_telling", "how a run of the program ends, and how that is told", ["faults", "failure", "explaining", "refusing", "saying", "streams", "journal"], ["Ends", "Failing", "Failures", "MessageCalls", "Orders", "Telling"], ["Ending", "Telling"]),
-    Part("dh_sockets", "the control socket of a file: made, removed, and asked by a message", ["socket", "sending"], ["Exchanges", "Trust"], []),
     Part("dh_client", "what is run beside a server: sent to it, and told by its answer", ["by_server"], ["Sent"], ["Lines"]),
-    Part("dh_running", "orders done over a desk, and a server run over a file", ["orders", "serving"], [], ["Asking", "Messages"]),
+    Part("dh_running", "orders done over a desk, and a server run over a file", ["clock", "orders", "serving"], ["Noting"], ["Asking", "Logging", "Messages"]),
 ]
+
+# What an open branch may lack, or may still have.
+MAY_LACK = {"clock", "explaining", "refusing", "journal", "Noting", "Logging"}
 
 told = []
 
@@ -196,6 +206,95 @@ def move_items(folder):
                     edit.write_text("\n".join([f"file: src/{new}.rt" if it.startswith("file: ") else it for it in lines]), encoding="utf-8")
 
 
+ANTT_USE = re.compile(r"^((?:ghost )?use )(Rattle\.[^\s;{]+?)\.\{([^}]*)\}(;?)\n", re.M)
+
+
+def named(names):
+    return [it.strip() for it in names.split(",") if it.strip()]
+
+
+def antt_words(text):
+    """The names that a text of specs/ uses, but for those behind the name of a file (`socket.Memory`)."""
+    text = re.sub(r'^ *--.*\n|"[^"\n]*"', "", text, flags=re.M)
+    return set(re.findall(r"(?<![\w.])\w+", text))
+
+
+def imports_of(text, body):
+    """The imports of a file of specs/ that a part of it uses."""
+    words = antt_words(body)
+    found = []
+    for it in re.finditer(r"^use [^\n]*\n", text, re.M):
+        alias = re.match(r"use Rattle\.\S+ as (\w+)\n", it[0])
+        if alias:
+            found += [it[0]] if alias[1] in words else []
+            continue
+        of = ANTT_USE.match(it[0])
+        wanted = [name for name in named(of[3]) if is_used(name.split(" as ")[-1], body, words)] if of else []
+        if wanted:
+            found.append(f"use {of[2]}.{{{', '.join(wanted)}}}\n")
+    return found
+
+
+def without_unused(text, gone):
+    """A file of specs/ without the imports that only a part that has gone used."""
+    body = re.sub(r"^(?:use .*|--.*)\n", "", text, flags=re.M)
+    words, was = antt_words(body), antt_words(gone)
+
+    def one(it):
+        alias = re.match(r"use Rattle\.\S+ as (\w+)\n", it[0])
+        if alias:
+            return it[0] if alias[1] in words or alias[1] not in was else ""
+        of = ANTT_USE.match(it[0])
+        if not of:
+            return it[0]
+        kept = [name for name in named(of[3]) if is_used(name.split(" as ")[-1], body, words) or not is_used(name.split(" as ")[-1], gone, was)]
+        return it[0] if kept == named(of[3]) else f"use {of[2]}.{{{', '.join(kept)}}}\n" if kept else ""
+
+    return re.sub(r"^use [^\n]*\n", one, text, flags=re.M)
+
+
+def move_definitions(folder):
+    """Puts the definitions of DEFINITIONS into their new files, and has all files import them from there."""
+    for file, name, new in DEFINITIONS:
+        path = folder / "specs" / f"{file}.antt"
+        text = path.read_text(encoding="utf-8") if path.is_file() else ""
+        # a definition is a block between empty lines, with its comment; a rule above it ('-- ----') stays
+        block = re.search(rf"^(?:--(?! ----).*\n)*(?:(?:abbrev|unfoldable) )?pub {name}\b(?:.+\n)+", text, re.M)
+        if not block:
+            tell(f"DEFINITIONS: {file} has no {name}")
+            continue
+        rest = (text[: block.start()] + text[block.end() :].lstrip("\n")).rstrip("\n") + "\n"
+        old, then = f"Rattle.{PROGRAM}.specs.{file}", f"Rattle.{PROGRAM}.specs.{new}"
+        rest = without_unused(rest, block[0])
+        if re.search(rf"\b{name}\b", rest):
+            last = list(re.finditer(r"^use .*\n", rest, re.M))[-1].end()
+            rest = rest[:last] + f"use {then}.{{{name}}}\n" + rest[last:]
+        target = folder / "specs" / f"{new}.antt"
+        if target.is_file():
+            raise SystemExit(f"split.py: {target} is there")
+        target.write_text(f"-- {HEADS[new]}\n" + "".join(imports_of(text, block[0])) + "\n" + block[0], encoding="utf-8")
+        path.write_text(rest, encoding="utf-8")
+        lib = folder / "specs" / "Lib.antt"
+        lib.write_text("".join(sorted([*lib.read_text(encoding="utf-8").splitlines(True), f"pub mod {new}\n"])), encoding="utf-8")
+        for it in folder.rglob("*"):
+            if it.suffix not in (".rt", ".antt") or "out" in it.relative_to(folder).parts:
+                continue
+            was = it.read_text(encoding="utf-8")
+
+            def one(use):
+                if use[2] != old or name not in named(use[3]):
+                    return use[0]
+                kept = [other for other in named(use[3]) if other != name]
+                return (f"{use[1]}{use[2]}.{{{', '.join(kept)}}}{use[4]}\n" if kept else "") + f"{use[1]}{then}.{{{name}}}{use[4]}\n"
+
+            now = ANTT_USE.sub(one, was)
+            for alias in re.findall(rf"^(?:ghost )?use {re.escape(old)} as (\w+)", now, re.M):
+                if re.search(rf"\b{alias}\.{name}\b", now):
+                    tell(f"{it.relative_to(folder)} has {alias}.{name}, which is of {new} now: by hand")
+            if now != was:
+                it.write_text(now, encoding="utf-8")
+
+
 def redirected(text, where):
     """A file's `use` lines with the items at their new places."""
     found = list(USE.finditer(text))
@@ -210,9 +309,37 @@ def redirected(text, where):
 # ---- crates
 
 
+def places_by_need(folder, of, modules, specs, lemmas):
+    """Gives a module, or a file of specs/ or proofs/, that CRATES does not name, and that a lower crate cites, to the lowest crate
+    that does."""
+    rank = {part.name: at for at, part in enumerate(CRATES)}
+    left = [("specs", it) for it in specs - of["specs"].keys()] + [("proofs", it) for it in lemmas - of["proofs"].keys()]
+    left += [("src", it) for it in modules - of["src"].keys()]
+    changed = True
+    while changed:
+        changed = False
+        for file in sorted(it for ending in ("*.rt", "*.antt") for it in folder.rglob(ending)):
+            inner = file.relative_to(folder).parts
+            if inner[0] not in ("src", "specs", "proofs") or inner[-1] == "Lib.antt":
+                continue
+            kind = "src" if inner[0] == "proofs" and len(inner) > 2 else inner[0]
+            here = of[kind].get(inner[1].split(".")[0])
+            if here is None:
+                continue
+            text = file.read_text(encoding="utf-8")
+            named = re.findall(rf"\bRattle\.{PROGRAM}\.(specs|proofs)\.([\w']+)", text)
+            named += [("src", it) for it in re.findall(rf"\bcrate::(\w+)::|\bRattle\.{PROGRAM}\.specs\.declared\.(\w+)", text) for it in it if it]
+            for other, name in named:
+                if (other, name) in left and rank[here] < rank.get(of[other].get(name), len(rank)):
+                    of[other][name] = here
+                    changed = True
+                    tell(f"{other} {name} of {PROGRAM} goes into {here}, since {'/'.join(inner)} cites it")
+
+
 def split(root):
     folder = root / "crates" / PROGRAM
     move_items(folder)
+    move_definitions(folder)
     modules = {it.stem for it in (folder / "src").glob("*.rt")} - {"main"}
     specs = {it.stem for it in (folder / "specs").glob("*.antt")} - {"Lib"}
     lemmas = {it.stem for it in (folder / "proofs").glob("*.antt")} - {"Lib"}
@@ -222,8 +349,9 @@ def split(root):
             for it in names:
                 if it in there:
                     of[kind][it] = part.name
-                else:
+                elif it not in MAY_LACK:
                     tell(f"CRATES: {kind} of {PROGRAM} has no {it}")
+    places_by_need(folder, of, modules, specs, lemmas)
     crates = [part for part in CRATES if any(part.name == it for it in of["src"].values())]
     place = lambda kind, name: of[kind].get(name, PROGRAM)
 
