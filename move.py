@@ -1095,6 +1095,7 @@ def mutants(repo):
         then = re.sub(rf"`{folder}/", f"`{new_folder}/", then)
         then = re.sub(rf"(?<=of these crates, `){folder}/", f"{new_folder}/", then)
         if file == new_tool:
+            then = then.replace(f"out/{folder}.refused", f"out/{new_folder}.refused")
             then = then.replace(f'"{folder}"', f'"{new_folder}"').replace(f'/{folder}"', f'/{new_folder}"').replace(f"/{folder}/", f"/{new_folder}/")
             then = then.replace(f'prefix="{folder}-"', f'prefix="{new_folder}-"')
         if file == "tools/lint":

@@ -29,6 +29,10 @@ ITEMS = [
 # Definitions that leave their file of specs/: the file, its definition, the new file.
 DEFINITIONS = [("Failures", "socket_name", "SocketFaults")]
 
+# Modules that stand in a lower crate then, since what is below the program needs them: the crate, the module, the crate that gets it.
+# Such a module cites nothing but std and its own proofs.
+MODULES = [("dh_server", "steady", "dh_ports")]
+
 # What a new module, or a new file of specs/, says of itself.
 HEADS = {
     "faults": "Why the file of a list or a server failed.",
@@ -306,6 +310,99 @@ def redirected(text, where):
     return text[: found[0].start()] + use_text(then) + text[found[-1].end() :]
 
 
+# ---- modules of other crates
+
+
+def move_modules(root):
+    """Moves the modules of MODULES, with the proofs of their functions and their wrong bodies."""
+    for crate, module, target in MODULES:
+        old, new = root / "crates" / crate, root / "crates" / target
+        source = old / "src" / f"{module}.rt"
+        if not source.is_file():
+            tell(f"MODULES: {crate} has no {module}")
+            continue
+        proofs = sorted((old / "proofs" / module).rglob("*.antt")) if (old / "proofs" / module).is_dir() else []
+        named = "".join(it.read_text(encoding="utf-8") for it in [source, *proofs])
+        foreign = set(re.findall(r"\bcrate::\w+|\b(?:dh|docs)_\w+::\w+", named))
+        foreign |= set(re.findall(rf"\bRattle\.(?!std\.)(?!{crate}\.proofs\.{module}\.)[\w.]+", named))
+        if foreign or (new / "src" / f"{module}.rt").exists():
+            tell(f"MODULES: {module} of {crate} stays, since it names {', '.join(sorted(foreign)) or 'what is there'}")
+            continue
+        lib, lib_then = old / "src" / "lib.rt", new / "src" / "lib.rt"
+        text = lib.read_text(encoding="utf-8")
+        offers = [leaf for it in USE.finditer(text) if it["vis"] for leaf in leaves_of(it["tree"]) if leaf.path[0] == module]
+        names = {leaf.path[-1] for leaf in offers}
+        text = re.sub(rf"^(?:pub )?mod {module};\n", "", text, flags=re.M)
+        text = USE.sub(lambda it: "" if it["vis"] and {leaf.path[0] for leaf in leaves_of(it["tree"])} == {module} else it[0], text)
+        lib.write_text(text, encoding="utf-8")
+        text = lib_then.read_text(encoding="utf-8")
+        mods = sorted([*re.findall(r"^(?:pub )?mod \w+;\n", text, re.M), f"mod {module};\n"], key=lambda it: it.split()[-1])
+        text = re.sub(r"(?:^(?:pub )?mod \w+;\n)+", "".join(mods), text, count=1, flags=re.M)
+        found = list(USE.finditer(text))
+        leaves = [leaf for it in found for leaf in leaves_of(it["tree"], it["vis"] or "")]
+        lib_then.write_text(text[: found[0].start()] + use_text([*leaves, *(leaf._replace(vis="pub ") for leaf in offers)]) + text[found[-1].end() :], encoding="utf-8")
+        (new / "src" / source.name).write_text(source.read_text(encoding="utf-8"), encoding="utf-8")
+        source.unlink()
+        for it in proofs:
+            then = new / "proofs" / it.relative_to(old / "proofs")
+            then.parent.mkdir(parents=True, exist_ok=True)
+            it.rename(then)
+        for folder in ("edits", "must-fail"):
+            for it in sorted((old / folder).glob("*.edit")) if (old / folder).is_dir() else []:
+                if f"file: src/{module}.rt\n" in it.read_text(encoding="utf-8"):
+                    (new / folder).mkdir(exist_ok=True)
+                    it.rename(new / folder / it.name)
+        for it in sorted((old / "proofs").rglob("*"), reverse=True) if (old / "proofs").is_dir() else []:
+            if it.is_dir() and not any(it.iterdir()):
+                it.rmdir()
+        named = set()
+        for file in sorted(it for ending in ("*.rt", "*.rt.in", "*.antt", "*.edit") for it in root.rglob(ending)):
+            inner = file.relative_to(root).parts
+            if "out" in inner:
+                continue
+            text = file.read_text(encoding="utf-8")
+            here = inner[1] if inner[0] == "crates" else None
+            then = re.sub(rf"\bRattle\.{crate}\.(proofs|specs\.declared)\.{module}\b", rf"Rattle.{target}.\1.{module}", text)
+            then = re.sub(rf"\b{crate}::({'|'.join(names)})\b", rf"{target}::\1", then)
+            if file.suffix in (".rt", ".in"):
+                found = list(USE.finditer(then))
+                leaves = [leaf for it in found for leaf in leaves_of(it["tree"], it["vis"] or "")]
+
+                def lower(leaf):
+                    path = leaf.path
+                    if here == crate and path[:2] == ("crate", module) or path[0] == crate and path[-1] in names:
+                        return Leaf(leaf.vis, (target, path[-1]), leaf.alias)
+                    return leaf
+
+                now = list(map(lower, leaves))
+                if now != leaves:
+                    then = then[: found[0].start()] + use_text(now) + then[found[-1].end() :]
+            if then != text:
+                file.write_text(then, encoding="utf-8")
+                if here and here != target:
+                    named.add(here)
+        give(root, named, target)
+        for file in [root / "README.md", *(root / "docs").rglob("*.md")]:
+            text = file.read_text(encoding="utf-8")
+            for name in names:
+                if re.search(rf"`{name}`[^`]*`{crate}`|`{crate}::{name}`", text):
+                    tell(f"{file.relative_to(root)} says `{name}` to be of {crate}: by hand")
+
+
+def give(root, crates, library):
+    """Gives crates a library in crates.txt that they lack, in the order of the lines there."""
+    file = root / "crates.txt"
+    lines = file.read_text(encoding="utf-8").split("\n")
+    order = [re.match(r"\w*", it)[0] for it in lines]
+    for at, line in enumerate(lines):
+        name, colon, given = line.partition(":")
+        if name in crates and library not in given.split():
+            given = given.split()
+            place = next((number for number, it in enumerate(given) if it not in order or order.index(it) > order.index(library)), len(given))
+            lines[at] = f"{name}: " + " ".join([*given[:place], library, *given[place:]])
+    file.write_text("\n".join(lines), encoding="utf-8")
+
+
 # ---- crates
 
 
@@ -523,6 +620,7 @@ def main(words):
         print(__doc__.strip(), file=sys.stderr)
         return 2
     root = Path(words[0]).resolve()
+    move_modules(root)
     split(root)
     for name in [*(it.name for it in CRATES), PROGRAM]:
         folder = root / "crates" / name
