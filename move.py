@@ -1,13 +1,14 @@
 #!/usr/bin/env python3
 """Moves the crates of a checkout into fewer ones, a room for each subject, by the tables below. It proves nothing.
 
-usage: move.py REPOSITORY [--only ROOM]... [--plan] [--chain] [--no-mutants] [--no-heads] [--format]
+usage: move.py REPOSITORY [--only ROOM]... [--plan] [--chain] [--no-mutants] [--no-heads] [--no-documents] [--format]
 
-  --only ROOM    these rooms alone (a name of ROOMS, or 'mutants', or 'heads'); others stay as they are
+  --only ROOM    these rooms alone (a name of ROOMS, or 'mutants', 'heads' or 'documents'); others stay as they are
   --plan         says what clashes, what would be moved and what has to be done by hand, and changes nothing
   --chain        the same, with the longest chain of crates before and after, by the minutes of MINUTES
   --no-mutants   leaves edits/, tools/edits and edits.judged under their names
   --no-heads     leaves the first line of src/lib.rt of crates that nothing is moved into
+  --no-documents leaves all documents in docs/
   --format       runs `rt fmt` in each crate whose .rt files changed
 
 What clashes is told, and then nothing is changed: a module of src/, a file of specs/ or proofs/, a name that a crate offers
@@ -35,7 +36,7 @@ Room = namedtuple("Room", "name parts says")
 ROOMS = [
     Room("dh_texts", ["dh_texts", "dh_paths"], "checked texts, slugs and numbers; targets, addresses, hosts and escapes"),
     Room("dh_ports", ["dh_ports"], "where bytes come from and go to, bounded reading, and why a call gives nothing"),
-    Room("dh_versions", ["dh_versions", "dh_rules"], "versions: which are releases, `latest` and `stable`; automation rules, and what they make of new ones"),
+    Room("dh_versions", ["dh_versions", "dh_rules"], "versions: which are releases, `latest` and `stable`; the automation rules for new ones"),
     Room("dh_redirects", ["dh_redirects", "dh_segments"], "redirects: their check, where one leads, and the first segment to find it by"),
     Room("dh_reads", ["dh_seen", "dh_wire"], "a read, a project as its caller sees it, a reply and its bytes"),
     Room("dh_reply", ["dh_reply"], "the reply to a read, over any `Lookup`"),
@@ -143,6 +144,34 @@ AFTER = [
     ("docs/ADD_A_COMMAND.md", "(`src/passes.rt`, `src/properties.rt`; of a push in `dh_commands`)", "(`src/passes.rt`, `src/properties.rt`, `src/pushes.rt`)"),
     ("docs/ADD_A_COMMAND.md", "`specs/Bodies.antt`, `specs/Fields.antt`), its path in `dh_requests` (`post_at`", "`specs/Bodies.antt`, `specs/BodyFields.antt`), its path there (`post_at`"),
     ("docs/PROOFS.md", "(`test_crates` 5.2, `test_crates` 3.2, `test_crates` 1.1 each)", "(of `test_crates`, as four crates)"),
+]
+
+# Documents for who works on the text, which get a folder of their own; those for users and for reviewers stay in docs/.
+CONTRIBUTING = "docs/contributing"
+CONTRIBUTED = ["layers.md", "WORDS.md", "PROOFS.md", "TESTS.md", "DECISIONS.md", "ADD_A_COMMAND.md", "ADD_A_TABLE.md"]
+
+# Documents that are new: the file, and the draft beside this program.
+DRAFTS = [(f"{CONTRIBUTING}/README.md", "drafts/contributing.md")]
+
+# Texts of documents and tools that change with that, as they stand once all else is done: file, old, new (a regular expression
+# where the old text is one). Each is made where it stands once, and told where it does not.
+DOCUMENTS = [
+    ("README.md", re.compile(r"    docs {17}PRIVACY\.md,.*\n(?: {25}.*\n)*"),
+     "    docs                 for who runs it: operations.md, publish.md, recipes.md, SCRIPTS.md; for reviewers: PROVED.md, PRIVACY.md\n"
+     "    docs/contributing    for who works on it: README.md says which is for what\n"),
+    ("README.md", re.compile(r"\[`docs/contributing/layers\.md`\]\(docs/contributing/layers\.md\) says what each crate offers\. In a crate"), "In a crate"),
+    ("README.md", re.compile(r"(?<=## Work on it\n\n)(?:    .*\n)+\n`rt doc` prints what to read first\.\n"),
+     "`.ci/run` is the gate. [Working on docs_host](docs/contributing/README.md) says how a crate is checked while you write, and which document has what.\n"),
+    ("README.md", re.compile(r"By what its parts took it should take some .*?\(20\d\d-\d\d-\d\d\)\. It needs"),
+     "On four quiet cores it should take 45 to 60 minutes ([what was measured](docs/contributing/PROOFS.md#costs)). It needs"),
+    ("README.md", "`.ci/run` all there is (`docs/contributing/PROOFS.md` says what costs how much).", "`.ci/run` all there is."),
+    ("docs/contributing/PROOFS.md", "took 274 processor minutes in 130 minutes of wall time (2026-11-30), with",
+     "took 274 processor minutes in 130 minutes of wall time (2026-11-30; on slower cores more than 312 in 152), with"),
+    ("docs/contributing/DECISIONS.md", "some fifty crates ([which has what](layers.md))", "some forty crates ([which has what](layers.md))"),
+    ("tools/lint", r'docs/[^/]+\.md|(?:tests', r'docs/(?:[^/]+/)?[^/]+\.md|(?:tests'),
+    ("tools/lint", "A document is README.md, docs/*.md, tests", "A document is README.md, docs/*.md, docs/*/*.md, tests"),
+    ("tools/debian.py", r'r"docs/[^/]+\.md|README', r'r"docs/(?:[^/]+/)?[^/]+\.md|README'),
+    ("tools/debian.py", 'put(f"{DOC}/{os.path.basename(name)}", data)', """put(f"{DOC}/{name.removeprefix('docs/')}", data)"""),
 ]
 
 # A room is to have no more functions than this.
@@ -642,7 +671,7 @@ def words(repo, line, where, here):
     line = re.sub(rf"\b({names})/((?:src|specs|proofs|edits|must-fail)(?:/[\w.*-]+)*)", file, line)
     line = re.sub(rf"(?<![/\w])({names})((?:::\w+)+(?:\.\w+)?|\.(?!rt\b|antt\b)[a-z]\w+(?=`))", path, line)
     line = re.sub(rf"(?<![\w])({names})(?!\w)", lambda it: repo.room_of[it[1]], line)
-    line = with_sums(repo, without_twice(repo, line))
+    line = with_sums(repo, of_once(repo, without_twice(repo, line)))
     if line.startswith("None proves of"):
         for room in repo.rooms.values():
             lacking = [it for it in room.parts if not re.search(rf"`{it}`", old)]
@@ -659,6 +688,15 @@ def words(repo, line, where, here):
                 repo.tell("hand", f"{where}: a comment names {other}, which is the same crate then: {line.strip()[:160]}")
     if line.count("`") and re.search(rf"`({'|'.join(repo.rooms)})`[^`]*`\1`", line):
         repo.tell("hand", f"{where}: one name stands twice: {line.strip()[:200]}")
+    return line
+
+
+def of_once(repo, line):
+    """Names that are said to be of one crate twice in turn, as '`a` of `X`; `b` of `X`', said once."""
+    span = r"`[^`]+`(?: \((?:[^()`]|`[^`]+`)*\))?"
+    for room in repo.rooms.values():
+        if len(room.parts) > 1:
+            line = re.sub(rf" of `{room.name}`(?:;|,) (?=(?:{span}(?:, | and ))*{span} of `{room.name}`(?![`:]))", ", ", line)
     return line
 
 
@@ -1121,6 +1159,64 @@ def drop_marks(repo, changed, below):
         file.write_text(text, encoding="utf-8")
 
 
+# ---- documents
+
+
+LINK = re.compile(r"(\]\()(?!\w+:)([^()\s#]+)((?:#[^()\s]*)?\))")
+
+
+def documents(repo):
+    """Moves the documents of CONTRIBUTED, and has all links and all that names them follow."""
+    there = [it for it in CONTRIBUTED if (repo.root / "docs" / it).is_file()]
+    for it in sorted(set(CONTRIBUTED) - set(there)):
+        repo.tell("gone", f"CONTRIBUTED has {it}, which is not in docs/")
+    place = {f"docs/{it}": f"{CONTRIBUTING}/{it}" for it in there}
+    named = re.compile(rf"\bdocs/({'|'.join(map(re.escape, there))})") if there else None
+    for file, text in list(texts_of(repo)):
+        new = place.get(file, file)
+
+        def link(it):
+            to = os.path.normpath(os.path.join(os.path.dirname(file), it[2]))
+            if to not in place and not (repo.root / to).exists():
+                return it[0]
+            return it[1] + os.path.relpath(place.get(to, to), os.path.dirname(new) or ".") + it[3]
+
+        then = text
+        if file.endswith(".md") and named:
+            # what stands between links first, since a link is made relative
+            pieces = LINK.split(text)
+            found = iter(LINK.finditer(text))
+            then = "".join(named.sub(rf"{CONTRIBUTING}/\1", it) if at % 4 == 0 else "" if at % 4 in (2, 3) else link(next(found)) for at, it in enumerate(pieces))
+        elif named and not file.startswith("crates/"):
+            then = named.sub(rf"{CONTRIBUTING}/\1", text)
+        if new != file:
+            (repo.root / new).parent.mkdir(parents=True, exist_ok=True)
+            (repo.root / file).rename(repo.root / new)
+        if then != text:
+            path = repo.root / new
+            mode = path.stat().st_mode
+            path.write_text(then, encoding="utf-8")
+            path.chmod(mode)
+    for file, draft in DRAFTS:
+        path = repo.root / file
+        if path.exists():
+            repo.tell("hand", f"{file} is there already, and was left as it is")
+            continue
+        path.parent.mkdir(parents=True, exist_ok=True)
+        path.write_text((Path(__file__).resolve().parent / draft).read_text(encoding="utf-8"), encoding="utf-8")
+    for file, old, new in DOCUMENTS:
+        path = repo.root / file
+        text = path.read_text(encoding="utf-8") if path.is_file() else ""
+        found = [it.span() for it in old.finditer(text)] if isinstance(old, re.Pattern) else [(it.start(), it.end()) for it in re.finditer(re.escape(old), text)]
+        if len(found) == 1:
+            path.write_text(text[: found[0][0]] + new + text[found[0][1] :], encoding="utf-8")
+        else:
+            said = old.pattern if isinstance(old, re.Pattern) else old
+            repo.tell("hand", f"DOCUMENTS has a text that does not stand once in {file}: {said[:100]!r}")
+    moved = lambda it: named.sub(rf"{CONTRIBUTING}/\1", it) if named else it
+    repo.said["hand"] = [moved(it) for it in repo.said.get("hand", [])]
+
+
 # ---- what is left to a human
 
 
@@ -1222,10 +1318,10 @@ def main(words):
     parser = argparse.ArgumentParser(usage=__doc__.split("\n\n")[1].removeprefix("usage: "))
     parser.add_argument("repository")
     parser.add_argument("--only", action="append", default=[])
-    for it in ("--plan", "--chain", "--no-mutants", "--no-heads", "--format"):
+    for it in ("--plan", "--chain", "--no-mutants", "--no-heads", "--no-documents", "--format"):
         parser.add_argument(it, action="store_true")
     given = parser.parse_args(words)
-    only = [it for it in given.only if it not in ("mutants", "heads")]
+    only = [it for it in given.only if it not in ("mutants", "heads", "documents")]
     unknown = set(only) - {it.name for it in ROOMS}
     if unknown:
         print(f"move.py: ROOMS has no {', '.join(sorted(unknown))}", file=sys.stderr)
@@ -1262,6 +1358,8 @@ def main(words):
     drop_marks(repo, changed, below)
     rows_twice(repo)
     after(repo)
+    if not given.no_documents and (not given.only or "documents" in given.only):
+        documents(repo)
     pages(repo)
     left_over(repo)
     if given.format:

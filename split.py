@@ -596,6 +596,7 @@ def documents(root, crates):
         for file in (root / "crates" / name / "src").rglob("*.rt"):
             for it in re.findall(r"\b(?:fn|struct|enum|trait|const|static) (\w+)", file.read_text(encoding="utf-8")):
                 declared.setdefault(it, name)
+    modules = {file.stem: name for name in [PROGRAM, *(it.name for it in crates)] for file in (root / "crates" / name / "src").glob("*.rt")}
     where = lambda name: declared.get(re.split(r"::|\.", name)[-1], declared.get(re.split(r"::|\.", name)[0], PROGRAM))
 
     def of(it):
@@ -610,6 +611,7 @@ def documents(root, crates):
     for file in [root / "README.md", *(root / "docs").rglob("*.md")]:
         text = file.read_text(encoding="utf-8")
         then = IN_BRACKETS.sub(lambda it: f"{it[1]}{it[3]} (`{where(it[2])}`)", OF_PROGRAM.sub(of, text))
+        then = re.sub(rf"\b{PROGRAM}::(\w+)", lambda it: f"{modules.get(it[1]) or where(it[1])}::{it[1]}", then)
         then = then.replace(f"(`{PROGRAM}`) sends there", f"(`{where('run_by_server')}`) sends there")
         if then != text:
             file.write_text(then, encoding="utf-8")
