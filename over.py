@@ -46,7 +46,7 @@ def laid_out(root, commit, folder):
 def found(folder, before):
     """What the programs that look find, each line; of same.py against the tree before."""
     said = {}
-    for name, words in (("resolve", [HERE / "resolve.py", "."]), ("lint", ["tools/lint"]), ("read", ["tools/read", "--check"]), ("links", [HERE / "links.py", "."])):
+    for name, words in (("resolve", [HERE / "resolve.py", "."]), ("lint", ["tools/lint"]), ("read", ["tools/read", "--check"]), ("links", [HERE / "links.py", "."]), ("applies", [HERE / "applies.py", "."])):
         said[name] = run(sys.executable, *words, cwd=folder).stdout.strip().split("\n")
     if before:
         lines = run(sys.executable, HERE / "same.py", before, folder).stdout.strip().split("\n")

@@ -139,4 +139,10 @@ for name, folder in sorted(crates.items()):
                 if not (folder / "src" / f"{it}.rt").is_file() and not (folder / "src" / it / "mod.rt").is_file():
                     missing += 1
                     print(f"{file.relative_to(root)}: mod {it}: no such file")
+for file in sorted(root.rglob("*.rt.in")):
+    for it in USE.finditer(file.read_text(encoding="utf-8")):
+        for leaf in leaves_of(it["tree"]):
+            if re.match(r"(?:dh|docs)_", leaf.path[0]) and len(leaf.path) > 1 and (leaf.path[0] not in crates or leaf.path[1] not in offered(leaf.path[0])):
+                missing += 1
+                print(f"{file.relative_to(root)}: use {'::'.join(leaf.path)}: no crate offers that")
 print(f"{missing} imports lead nowhere")
