@@ -157,8 +157,9 @@ DRAFTS = [(f"{CONTRIBUTING}/README.md", "drafts/contributing.md")]
 # where the old text is one). Each is made where it stands once, and told where it does not.
 DOCUMENTS = [
     ("README.md", re.compile(r"    docs {17}PRIVACY\.md,.*\n(?: {25}.*\n)*"),
-     "    docs                 for who runs it: operations.md, publish.md, recipes.md, SCRIPTS.md; for reviewers: PROVED.md, PRIVACY.md\n"
-     "    docs/contributing    for who works on it: README.md says which is for what\n"),
+     "    docs                 for who runs it: operations.md, publish.md, recipes.md, SCRIPTS.md;\n"
+     "                         for who reviews it: PROVED.md, PRIVACY.md\n"
+     "    docs/contributing    for who works on it; README.md there says which is for what\n"),
     ("README.md", re.compile(r"\[`docs/contributing/layers\.md`\]\(docs/contributing/layers\.md\) says what each crate offers\. In a crate"), "In a crate"),
     ("README.md", re.compile(r"(?<=## Work on it\n\n)(?:    .*\n)+\n`rt doc` prints what to read first\.\n"),
      "`.ci/run` is the gate. [Working on docs_host](docs/contributing/README.md) says how a crate is checked while you write, and which document has what.\n"),

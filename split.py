@@ -611,6 +611,8 @@ def documents(root, crates):
     for file in [root / "README.md", *(root / "docs").rglob("*.md")]:
         text = file.read_text(encoding="utf-8")
         then = IN_BRACKETS.sub(lambda it: f"{it[1]}{it[3]} (`{where(it[2])}`)", OF_PROGRAM.sub(of, text))
+        # costs that were measured of it as one crate
+        then = re.sub(rf"^( {{4}}{PROGRAM} [\d.]+), ", lambda it: f"{it[1]} (as one crate with {', '.join(part.name for part in crates)}), ", then, flags=re.M)
         then = re.sub(rf"\b{PROGRAM}::(\w+)", lambda it: f"{modules.get(it[1]) or where(it[1])}::{it[1]}", then)
         then = then.replace(f"(`{PROGRAM}`) sends there", f"(`{where('run_by_server')}`) sends there")
         if then != text:
