@@ -1,13 +1,15 @@
 #!/usr/bin/env python3
 """Moves the crates of a checkout into fewer ones, a room for each subject, by the tables below. It proves nothing.
 
-usage: move.py REPOSITORY [--only ROOM]... [--plan] [--chain] [--no-mutants] [--no-heads] [--no-documents] [--format]
+usage: move.py REPOSITORY [--only ROOM]... [--plan] [--chain] [--no-mutants] [--no-heads] [--no-documents] [--together ROOM]... [--format]
 
   --only ROOM    these rooms alone (a name of ROOMS, or 'mutants', 'heads' or 'documents'); others stay as they are
   --plan         says what clashes, what would be moved and what has to be done by hand, and changes nothing
   --chain        the same, with the longest chain of crates before and after, by the minutes of MINUTES
   --no-mutants   leaves edits/, tools/edits and edits.judged under their names
   --no-heads     leaves the first line of src/lib.rt of crates that nothing is moved into
+  --together ROOM
+                 puts the wrong bodies of must-fail/ of this room into mutants/, where they are judged in groups
   --no-documents leaves all documents in docs/
   --format       runs `rt fmt` in each crate whose .rt files changed
 
@@ -1146,6 +1148,22 @@ def mutants(repo):
             path.chmod(mode)
 
 
+def together(repo, rooms):
+    """Puts the wrong bodies of must-fail/ of these rooms into mutants/."""
+    for name in rooms:
+        crate = repo.root / "crates" / name
+        for it in sorted((crate / "must-fail").glob("*.edit")):
+            then = crate / MUTANTS["folder"][1] / it.name
+            if then.exists():
+                repo.tell("hand", f"{it.relative_to(repo.root)} stays: {then.parent.name}/ has one of that name")
+                continue
+            then.parent.mkdir(exist_ok=True)
+            it.rename(then)
+            repo.tell("seen", f"{it.relative_to(repo.root)} stands in {then.parent.name}/ now")
+        if (crate / "must-fail").is_dir() and not any((crate / "must-fail").iterdir()):
+            (crate / "must-fail").rmdir()
+
+
 def drop_marks(repo, changed, below):
     """Takes the marks of judged bodies away whose crate, or one below it, is another text now."""
     for name in ("edits.judged", MUTANTS["marks"][1]):
@@ -1319,6 +1337,7 @@ def main(words):
     parser = argparse.ArgumentParser(usage=__doc__.split("\n\n")[1].removeprefix("usage: "))
     parser.add_argument("repository")
     parser.add_argument("--only", action="append", default=[])
+    parser.add_argument("--together", action="append", default=[])
     for it in ("--plan", "--chain", "--no-mutants", "--no-heads", "--no-documents", "--format"):
         parser.add_argument(it, action="store_true")
     given = parser.parse_args(words)
@@ -1356,6 +1375,7 @@ def main(words):
             lint(repo)
     if not given.no_mutants and (not given.only or "mutants" in given.only):
         mutants(repo)
+        together(repo, given.together)
     drop_marks(repo, changed, below)
     rows_twice(repo)
     after(repo)
