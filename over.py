@@ -71,7 +71,8 @@ def moved(root, commit, folder):
         git(folder, "commit", "-qm", words[0])
     new = found(folder, before)
     for name, lines in new.items():
-        where = lambda it: re.sub(r"^[^ ]*?:\d+: ", "", it)
+        # without the place, which is another one
+        where = lambda it: re.sub(r"^[^ ]*?:\d+: |^crates/\S+/(?=\w+\.edit: )", "", it)
         known = {where(it) for it in old.get(name, [])}
         for it in lines[:-1]:
             if where(it) not in known and not it.endswith("(no fault)"):
