@@ -142,7 +142,17 @@ here knows a store: to look up, and to make the edits of a plan, is the work of 
 AFTER = [
     ("crates/dh_records/src/making.rt", "`PassRow` of `dh_records` (`records.rt`)", "`PassRow` (`records.rt`)"),
     ("crates/dh_records/src/making.rt", "(`specs/Constraints.antt` of `dh_records`)", "(`specs/Constraints.antt`)"),
-    ("crates/dh_transactions/src/lib.rt", "or refuses (`decide`; pushes\n//! are decided in `dh_commands`).", "or refuses\n//! (`decide`)."),
+    ("crates/dh_transactions/src/lib.rt",
+     "`dh_commands` checks its\n//! texts and makes a `CheckedChange` (`check`). `dh_commands` says what the command asks of the project (`questions_of`),\n"
+     "//! `dh_edits` looks that up as `Facts` (`look`), and `dh_commands` decides on a `Plan` of `Edit`s, or refuses (`decide`; pushes\n"
+     "//! are decided in `dh_commands`). `dh_edits` makes each edit (`make_edit`), which writes a row",
+     "`dh_commands` checks its texts, makes a `CheckedChange` of it (`check`), and says what it\n"
+     "//! asks of the project (`questions_of`); `dh_edits` looks that up as `Facts` (`look`). `dh_commands` decides on a `Plan` of\n"
+     "//! `Edit`s, or refuses (`decide`); `dh_edits` makes each edit (`make_edit`), which writes a row"),
+    ("docs/ADD_A_COMMAND.md", "8. `dh_commands`, `asked_by` in", "8. `asked_by` in"),
+    ("docs/ADD_A_COMMAND.md", "9. `dh_commands`, the file of its subject", "9. The file of its subject"),
+    ("docs/ADD_A_COMMAND.md", "define `plan_..` in `specs/Plans.antt` of `dh_commands`.", "define `plan_..` in `specs/Plans.antt`."),
+    ("docs/PROVED.md", "`check` of `dh_commands` (`ChecksCommand`), `questions_of`, `decide` of", "`check` (`ChecksCommand`), `questions_of`, `decide` of"),
     ("docs/ADD_A_COMMAND.md", "(`src/passes.rt`, `src/properties.rt`; of a push in `dh_commands`)", "(`src/passes.rt`, `src/properties.rt`, `src/pushes.rt`)"),
     ("docs/ADD_A_COMMAND.md", "`specs/Bodies.antt`, `specs/Fields.antt`), its path in `dh_requests` (`post_at`", "`specs/Bodies.antt`, `specs/BodyFields.antt`), its path there (`post_at`"),
     ("docs/PROOFS.md", "(`test_crates` 5.2, `test_crates` 3.2, `test_crates` 1.1 each)", "(of `test_crates`, as four crates)"),
