@@ -363,7 +363,6 @@ def move_modules(root):
             text = file.read_text(encoding="utf-8")
             here = inner[1] if inner[0] == "crates" else None
             then = re.sub(rf"\bRattle\.{crate}\.(proofs|specs\.declared)\.{module}\b", rf"Rattle.{target}.\1.{module}", text)
-            then = re.sub(rf"\b{crate}::({'|'.join(names)})\b", rf"{target}::\1", then)
             if file.suffix in (".rt", ".in"):
                 found = list(USE.finditer(then))
                 leaves = [leaf for it in found for leaf in leaves_of(it["tree"], it["vis"] or "")]
@@ -377,6 +376,8 @@ def move_modules(root):
                 now = list(map(lower, leaves))
                 if now != leaves:
                     then = then[: found[0].start()] + use_text(now) + then[found[-1].end() :]
+            # behind the imports, so that these are put together
+            then = re.sub(rf"\b{crate}::({'|'.join(names)})\b", rf"{target}::\1", then)
             if then != text:
                 file.write_text(then, encoding="utf-8")
                 if here and here != target:
