@@ -1,11 +1,1 @@
-pub mod Ends
-pub mod Exchanges
-pub mod Failing
-pub mod Failures
-pub mod MessageCalls
-pub mod Noting
-pub mod Orders
 pub mod OwnStore
-pub mod Sent
-pub mod Telling
-pub mod Trust

@@ -3,20 +3,17 @@
 ghost use Rattle.std.specs.Prelude.{◌≡◌, ◌≤◌, ◌<◌, ◌∷◌, ◌++◌, true, false, [], length, IfOk, IfErr, IfSome, OnOk, IsTrue};
 ghost use Rattle.std.specs.Io.KnownBytes.{Appends};
 ghost use Rattle.dh_server.specs.Telling.{TellsSome};
-ghost use Rattle.docs_host.specs.Ends.{Ended, may_end_single};
-ghost use Rattle.docs_host.specs.Failing.{may_fail, is_of_list, is_of_output, is_too_long};
-ghost use Rattle.docs_host.specs.Failures.{list_name};
-ghost use Rattle.docs_host.specs.Orders as spec;
-ghost use Rattle.docs_host.specs.Orders.{OrdersImport, bad_record};
+ghost use Rattle.dh_telling.specs.Ends.{Ended, may_end_single};
+ghost use Rattle.dh_telling.specs.Failing.{may_fail, is_of_list, is_of_output, is_too_long};
+ghost use Rattle.dh_telling.specs.Orders as spec;
+ghost use Rattle.dh_telling.specs.Orders.{OrdersImport, bad_record};
 
-use crate::failure::{Failure, Status, put};
-use crate::orders::say;
-use crate::streams::Streams;
 use dh_lines::{DeskOrder, Order};
 use dh_listings::shown;
 use dh_lists::{ListFault, RecordFault, read_list};
 use dh_paths::Text;
 use dh_ports::{Intake, Port, Sink, Source, Stop};
+use dh_telling::{Failure, ListFileFault, Status, Streams, put, say};
 use dh_world::{Command, CommandChange, Redirects};
 use std::alloc::{AllocError, Global};
 use std::fs::File;
@@ -24,41 +21,6 @@ use std::io;
 
 /// The most bytes of a list.
 const MOST_LIST_BYTES: usize = 1_048_576;
-
-/// Why the file of a list was not read.
-#[derive(Clone, Copy, Debug, PartialEq, Eq)]
-pub enum ListFileFault {
-    /// There is no file of this name.
-    Missing,
-    /// The file may not be read.
-    Forbidden,
-    /// The file cannot be opened, or a read failed.
-    Unread,
-    /// The file has more than 1,048,576 bytes.
-    TooLong,
-}
-
-impl ListFileFault {
-    /// The name that programs read.
-    pub fn name(self) -> &'static str
-        ensures { result.now ≡ list_name self }
-    {
-        match self {
-            ListFileFault::Missing | ListFileFault::Forbidden | ListFileFault::Unread => "Read",
-            ListFileFault::TooLong => "TooLong",
-        }
-    }
-
-    /// What is wrong, as the end of a sentence that begins with the file's name.
-    pub fn cause(self) -> &'static str {
-        match self {
-            ListFileFault::Missing => "there is no such list",
-            ListFileFault::Forbidden => "this list may not be read by this user",
-            ListFileFault::Unread => "this list cannot be read",
-            ListFileFault::TooLong => "this list has more than 1,048,576 bytes",
-        }
-    }
-}
 
 /// The file of a list, as it was read.
 #[derive(Clone, Copy)]

@@ -1,26 +1,15 @@
 //! A host of versioned documentation.
 #![tactic(auto)]
 
-mod by_server;
-mod clock;
-mod failure;
-mod journal;
 mod lists;
-mod orders;
 mod own_store;
 mod program;
-mod refusing;
-mod sending;
-mod serving;
-mod socket;
-mod streams;
 mod usage;
 
-use clock::seconds;
 use dh_log::Leveled;
 use dh_ports::Port;
-use failure::{Failure, Status, tell, tell_usage};
-use journal::is_journal;
+use dh_running::seconds;
+use dh_telling::{Failure, Status, Streams, is_journal, tell, tell_usage};
 use own_store::name_store;
 use program::run_program;
 use sqlite_disk::Unknown;
@@ -28,7 +17,6 @@ use std::env::VarError;
 use std::io::{self, ErrorKind};
 use std::process::ExitCode;
 use std::rt::Env;
-use streams::Streams;
 
 /// The words behind the program's own name, with the file that DOCS_STORE names where they lack one.
 fn words_of<R: Env + AllocGlobal>(rt: &R) -> io::Result<Vec<String>> {

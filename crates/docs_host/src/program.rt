@@ -3,30 +3,30 @@
 ghost use Rattle.std.specs.Prelude.{◌≡◌, true, false, map, drop, string_bytes, option_map, IfOk, IsTrue, MatchOption, Some};
 ghost use Rattle.dh_server.specs.Telling.{TellsSome};
 ghost use Rattle.dh_lines.specs.Lines.{line_in};
-ghost use Rattle.docs_host.specs.Ends.{Ended, EndsScript, EndsRequest, EndsOver, EndsList, EndsBy};
-ghost use Rattle.docs_host.specs.Ends.{EndsAsked, EndsWords, EndsProgram};
-ghost use Rattle.docs_host.specs.Ends.{asks_help, asks_version, line_asked, line_run, may_end_order};
-ghost use Rattle.docs_host.specs.Failing.{IsDoneOr, is_of_init, is_of_file, is_of_command, is_of_memory, is_of_opened, is_of_run, is_of_sent};
-ghost use Rattle.docs_host.specs.Orders as spec;
-ghost use Rattle.docs_host.specs.Orders.{AreUnbroken};
-ghost use Rattle.docs_host.specs.Telling.{TellsEnd};
-ghost use Rattle.docs_host.specs.Telling as telling;
+ghost use Rattle.dh_telling.specs.Ends.{Ended, EndsScript, EndsRequest, EndsOver, EndsList, EndsBy};
+ghost use Rattle.dh_telling.specs.Ends.{EndsAsked, EndsWords, EndsProgram};
+ghost use Rattle.dh_telling.specs.Ends.{asks_help, asks_version, line_asked, line_run, may_end_order};
+ghost use Rattle.dh_telling.specs.Failing.{IsDoneOr, is_of_init, is_of_file, is_of_command, is_of_memory, is_of_opened, is_of_run, is_of_sent};
+ghost use Rattle.dh_telling.specs.Orders as spec;
+ghost use Rattle.dh_telling.specs.Orders.{AreUnbroken};
+ghost use Rattle.dh_telling.specs.Telling.{TellsEnd};
+ghost use Rattle.dh_telling.specs.Telling as telling;
 
-use crate::by_server::{run_by_server, run_import_by_server};
-use crate::failure::{Failure, Status, tell, tell_reason, tell_usage};
 use crate::lists::{ListFile, order_in, read_list_file, refuse_record};
-use crate::orders::{do_order, run_lines, say};
-use crate::sending::Sockets;
-use crate::serving::{Places, Served, bind_places, open_within, serve_rest, tell_waiting};
-use crate::streams::Streams;
 use crate::usage::{tell_help, tell_mistake, tell_version};
+use dh_client::{run_by_server, run_import_by_server};
 use dh_files::{FileDesk, FileFault, close_desk, init_file, migrate_file, open_desk};
 use dh_lines::{DeskOrder, FileOrder, Line, LineFault, Order, ProgramOrder, line_of};
 use dh_lists::ListFault;
 use dh_paths::Text;
 use dh_ports::{Sink, Source};
+use dh_running::{
+    Places, Served, bind_places, do_order, open_within, run_lines, serve_rest, tell_waiting,
+};
 use dh_sample::{answer_sample, empty_desk};
 use dh_script::{Reason, is_bad_target};
+use dh_sockets::Sockets;
+use dh_telling::{Failure, Status, Streams, say, tell, tell_reason, tell_usage};
 use sqlite::Start;
 use std::alloc::{AllocError, Global};
 

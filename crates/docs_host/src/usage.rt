@@ -2,17 +2,16 @@
 
 ghost use Rattle.std.specs.Prelude.{◌≡◌, ◌++◌, [], ◌∷◌, false, map, codes, string_bytes, IfOk, OnErr, ⊤, None};
 ghost use Rattle.clap.specs.Values.{kind_of};
-ghost use Rattle.docs_host.specs.Ends.{Ended, EndsError, EndsHelp, EndsVersion};
-ghost use Rattle.docs_host.specs.Failing.{is_of_output};
-ghost use Rattle.docs_host.specs.Telling.{TellsEnd};
+ghost use Rattle.dh_telling.specs.Ends.{Ended, EndsError, EndsHelp, EndsVersion};
+ghost use Rattle.dh_telling.specs.Failing.{is_of_output};
+ghost use Rattle.dh_telling.specs.Telling.{TellsEnd};
 
-use crate::failure::{Failure, Status, put, tell, tell_usage};
-use crate::orders::say;
 use clap::error::ErrorKind;
 use clap::{ArgMatches, Error};
 use dh_lines::{docs_command, reads};
 use dh_listings::{lines_steer_nothing, shown};
 use dh_ports::{Sink, put_all};
+use dh_telling::{Failure, Status, put, say, tell, tell_usage};
 use std::alloc::{AllocError, Global};
 
 /// The words that may have only some values, and these values.

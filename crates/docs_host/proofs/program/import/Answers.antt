@@ -1,4 +1,4 @@
-use Rattle.docs_host.proofs.Ending.{import_ended, list_failed}
+use Rattle.dh_telling.proofs.Ending.{import_ended, list_failed}
 use Rattle.docs_host.proofs.program.import.Goals as goal
 
 pub returns-in_err-bytes-clause-ends : goal.returns-in_err-bytes-clause-ends

@@ -1,4 +1,4 @@
-use Rattle.docs_host.proofs.Ending.{command_ended, list_orders_act, record_ended, unlisted}
+use Rattle.dh_telling.proofs.Ending.{command_ended, list_orders_act, record_ended, unlisted}
 use Rattle.docs_host.proofs.program.import_list.Goals as goal
 
 pub returns-in-Ok-clause-ends : goal.returns-in-Ok-clause-ends

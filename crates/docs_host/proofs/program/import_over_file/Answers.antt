@@ -1,5 +1,5 @@
 use Rattle.std.proofs.Common.{refl}
-use Rattle.docs_host.proofs.Ending.{act_sent, as_sent, faulty_order}
+use Rattle.dh_telling.proofs.Ending.{act_sent, as_sent, faulty_order}
 use Rattle.docs_host.proofs.program.import_over_file.Goals as goal
 
 pub returns-in-Ok-clause-ends : goal.returns-in-Ok-clause-ends

@@ -1,7 +1,7 @@
 use Rattle.std.proofs.Common.{subst}
 use Rattle.std.specs.Prelude.{Some}
-use Rattle.docs_host.specs.Telling.{TellsFault}
-use Rattle.docs_host.proofs.Telling.{no_fault, told_last}
+use Rattle.dh_telling.specs.Telling.{TellsFault}
+use Rattle.dh_telling.proofs.Telling.{no_fault, told_last}
 use Rattle.docs_host.proofs.program.run_and_tell.Goals as goal
 
 pub returns-in-Ok-clause-told : goal.returns-in-Ok-clause-told

@@ -5,9 +5,9 @@ use Rattle.dh_http.specs.Desk.{world}
 use Rattle.dh_http.proofs.Moving.{goes_at}
 use Rattle.dh_lines.specs.declared.lines.Order.TheVariants.{Program}
 use Rattle.dh_lines.specs.declared.lines.ProgramOrder.TheVariants.{Script}
-use Rattle.docs_host.specs.Ends.{EndsScript}
-use Rattle.docs_host.specs.Failing.{is_of_memory}
-use Rattle.docs_host.proofs.Ending.{no_desk, script_ended}
+use Rattle.dh_telling.specs.Ends.{EndsScript}
+use Rattle.dh_telling.specs.Failing.{is_of_memory}
+use Rattle.dh_telling.proofs.Ending.{no_desk, script_ended}
 use Rattle.docs_host.proofs.program.run_in_memory.Goals as goal
 
 pub returns-in_err-desk-clause-ends : goal.returns-in_err-desk-clause-ends

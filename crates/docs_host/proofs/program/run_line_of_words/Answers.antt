@@ -1,6 +1,6 @@
 use Rattle.std.proofs.Common.{map, string_bytes}
 use Rattle.dh_lines.specs.Lines.{line_in}
-use Rattle.docs_host.proofs.Telling.{told_memory}
+use Rattle.dh_telling.proofs.Telling.{told_memory}
 use Rattle.docs_host.proofs.program.run_line_of_words.Goals as goal
 
 pub returns-in-Err-Memory-clause-told : goal.returns-in-Err-Memory-clause-told

@@ -1,5 +1,5 @@
 use Rattle.dh_server.proofs.Told.{some_more}
-use Rattle.docs_host.proofs.Ending.{file_failed, rest_ended}
+use Rattle.dh_telling.proofs.Ending.{file_failed, rest_ended}
 use Rattle.docs_host.proofs.program.run_over_desk.Goals as goal
 
 pub returns-in_err-closed-clause-ends : goal.returns-in_err-closed-clause-ends

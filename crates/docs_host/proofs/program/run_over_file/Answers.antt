@@ -1,5 +1,5 @@
 use Rattle.std.proofs.Common.{◌∙◌, sym}
-use Rattle.docs_host.proofs.Ending.{checked, opened_ended}
+use Rattle.dh_telling.proofs.Ending.{checked, opened_ended}
 use Rattle.docs_host.proofs.program.run_over_file.Goals as goal
 
 pub returns-in-Ok-clause-ends : goal.returns-in-Ok-clause-ends

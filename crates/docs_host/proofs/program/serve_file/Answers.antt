@@ -1,6 +1,6 @@
 use Rattle.std.proofs.Common.{Err, refl}
-use Rattle.docs_host.proofs.Ending.{faulty_order, opened_ended}
-use Rattle.docs_host.specs.declared.failure.Failure.TheVariants.{File}
+use Rattle.dh_telling.proofs.Ending.{faulty_order, opened_ended}
+use Rattle.dh_telling.specs.declared.failure.Failure.TheVariants.{File}
 use Rattle.docs_host.proofs.program.serve_file.Goals as goal
 
 pub returns-in-Ok-clause-ends : goal.returns-in-Ok-clause-ends

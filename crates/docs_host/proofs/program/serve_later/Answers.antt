@@ -1,6 +1,6 @@
 use Rattle.std.proofs.Common.{refl}
 use Rattle.dh_server.proofs.Told.{some_more}
-use Rattle.docs_host.proofs.Ending.{faulty_order}
+use Rattle.dh_telling.proofs.Ending.{faulty_order}
 use Rattle.docs_host.proofs.program.serve_later.Goals as goal
 
 pub returns-in-Ok-clause-tells : goal.returns-in-Ok-clause-tells

@@ -1,9 +1,9 @@
 use Rattle.std.proofs.Common.{map, string_bytes}
 use Rattle.std.specs.Prelude.{None}
 use Rattle.dh_lines.specs.Lines.{line_in}
-use Rattle.docs_host.specs.Ends.{asks_help, line_asked}
-use Rattle.docs_host.proofs.Ending.{no_line, its_line, help_asked, line_asked_for}
-use Rattle.docs_host.proofs.Telling.{told_of}
+use Rattle.dh_telling.specs.Ends.{asks_help, line_asked}
+use Rattle.dh_telling.proofs.Ending.{no_line, its_line, help_asked, line_asked_for}
+use Rattle.dh_telling.proofs.Telling.{told_of}
 use Rattle.docs_host.proofs.program.tell_help_or_run.Goals as goal
 
 pub returns-in-Some-clause-ends : goal.returns-in-Some-clause-ends

@@ -1,8 +1,8 @@
 use Rattle.std.proofs.Common.{◌∙◌, map, sym, string_bytes}
 use Rattle.std.specs.Prelude.{None}
-use Rattle.docs_host.specs.Ends.{asks_help, line_asked, line_run}
-use Rattle.docs_host.proofs.Ending.{no_version, no_version_line, other_asked, version_asked}
-use Rattle.docs_host.proofs.Telling.{told_of}
+use Rattle.dh_telling.specs.Ends.{asks_help, line_asked, line_run}
+use Rattle.dh_telling.proofs.Ending.{no_version, no_version_line, other_asked, version_asked}
+use Rattle.dh_telling.proofs.Telling.{told_of}
 use Rattle.docs_host.proofs.program.tell_version_or_run.Goals as goal
 
 pub returns-then-wants_version-clause-ends : goal.returns-then-wants_version-clause-ends

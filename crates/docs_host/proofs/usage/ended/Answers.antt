@@ -1,8 +1,8 @@
 use Rattle.std.proofs.Common.{subst}
 use Rattle.std.specs.Prelude.{None, ⊤}
-use Rattle.docs_host.specs.Ends.{Ended}
-use Rattle.docs_host.specs.Failing.{is_of_output}
-use Rattle.docs_host.proofs.Telling.{told_alone}
+use Rattle.dh_telling.specs.Ends.{Ended}
+use Rattle.dh_telling.specs.Failing.{is_of_output}
+use Rattle.dh_telling.proofs.Telling.{told_alone}
 use Rattle.docs_host.proofs.usage.ended.Goals as goal
 
 pub returns-in-Err-clause-told : goal.returns-in-Err-clause-told

@@ -1,7 +1,7 @@
 use Rattle.std.proofs.Common.{map, string_bytes}
 use Rattle.clap.specs.Simple.{app_of}
 use Rattle.clap.specs.Values.{kind_of}
-use Rattle.docs_host.proofs.Ending.{error_ended}
+use Rattle.dh_telling.proofs.Ending.{error_ended}
 use Rattle.docs_host.proofs.usage.tell_words.Goals as goal
 
 pub returns : goal.returns
