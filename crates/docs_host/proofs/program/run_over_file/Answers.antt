@@ -1,5 +1,6 @@
-use Rattle.std.proofs.Common.{◌∙◌, sym}
-use Rattle.dh_telling.proofs.Ending.{checked, opened_ended}
+use Rattle.std.proofs.Common.{◌∙◌, Err, refl, sym}
+use Rattle.dh_telling.proofs.Ending.{checked, faulty_order, opened_ended}
+use Rattle.dh_telling.specs.declared.failure.Failure.TheVariants.{File}
 use Rattle.docs_host.proofs.program.run_over_file.Goals as goal
 
 pub returns-in-Ok-clause-ends : goal.returns-in-Ok-clause-ends
@@ -11,3 +12,8 @@ pub returns-in-Err-Busy-clause-ends : goal.returns-in-Err-Busy-clause-ends
 returns-in-Err-Busy-clause-ends g c =
     checked (g.W.Sink.held c.args.streams.now.sink) (g.W.Sink.held c.run_by_server.new.streams.sink) c.args.order.now
     c.run_by_server.result (sym c.in_ok-has_bad_target.ensures ∙ c.if-branch.false) c.run_by_server.ensures.ends
+
+pub returns-in-Err-clause-ends : goal.returns-in-Err-clause-ends
+returns-in-Err-clause-ends g c =
+    checked (g.W.Sink.held c.args.streams.now.sink) (g.W.Sink.held c.args.streams.now.sink) c.args.order.now
+    (Err (File c.in-Err.fault)) (sym c.in_ok-has_bad_target.ensures ∙ c.if-branch.false) (faulty_order c.args.order.now, refl)
