@@ -1,6 +1,10 @@
 //! What `latest`, `stable` and the default are for a class of callers.
 
-use dh_paths::Slug;
+ghost use Rattle.std.specs.Prelude.{◌≡◌};
+ghost use Rattle.dh_aliases.specs.Names as spec;
+
+use dh_paths::{RefName, Slug};
+use dh_versions::{Kind, Version};
 
 /// What `latest`, `stable` and the default are for a class of callers.
 #[derive(Debug, Drop)]
@@ -11,4 +15,11 @@ pub struct Names {
     pub stable: Option<Slug>,
     /// The name that leads to the default version: a slug, or the name of an alias.
     pub default: Option<Slug>,
+}
+
+/// Whether the version is the branch of that name.
+pub fn is_of_branch(version: &Version, branch: &RefName) -> bool
+    ensures { result ≡ spec.is_of_branch branch.now version.now }
+{
+    version.kind == Kind::Branch && version.name.as_str() == branch.as_str()
 }

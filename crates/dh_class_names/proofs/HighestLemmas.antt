@@ -140,12 +140,6 @@ module _ (rows : List VersionRow) where
             not_there w e = cc
         go (Some v) stands = by_state v stands v.active refl
 
--- a record that was found under a grant's slug, as it was read
-pub opened_is : (best : Option Version) (rows : List VersionRow) (r : VersionRow) (read slug : Text) → read ≡ slug → Some r ≡ find (λ r. bytes_eq r.version.slug read) rows → r.version.active ≡ true
-    → higher_of best r.version ≡ with_opened best (version_under rows slug)
-opened_is best rows r read slug same found active =
-    ap (λ b. cond b (higher_of best r.version) best) (sym active) ∙ ap (with_opened best) (ap (option_map version_in) found ∙ ap (version_under rows) same)
-
 -- ---- of a list up to a place
 
 pub public_more : (rows : List VersionRow) (i : ℕ) (x : VersionRow) → i < length rows → x ≡ get_or rows i x → (old new : Option Version) → new ≡ with_public old x.version

@@ -1,4 +1,5 @@
 pub mod LookupLemmas
+pub mod DefaultLemmas
 pub mod HighestLemmas
 pub mod RowLemmas
 pub mod NamingLemmas

@@ -1,9 +1,10 @@
 -- Versions that rise by their slugs are found by halves.
 use Rattle.std.proofs.Common.{◌≡◌, ℕ, zero, suc, ◌<◌, ◌≤◌, Bool, true, false, true≢false, ◌&&◌, cond, List, [], ◌∷◌, length, find, get_or, Option, Some, None, refl, sym, ap, ◌∙◌, arith, add-one, Ordering, Less, Equal, Greater, is_lt}
-use Rattle.std.specs.Option.{option_map, option_and_then}
+use Rattle.std.specs.Option.{option_and_then}
 use Rattle.std.specs.Ordering.{ordering_reverse, ordering_index}
 use Rattle.std.specs.List.Sorted.{IsSortedByKey, IsNonDecreasingBy, IsPartitionedBy, IsPartitionPoint}
 use Rattle.std.specs.Str.{bytes_eq}
+use Rattle.dh_versions.specs.declared.version.Version.{Version}
 use Rattle.dh_world.specs.World.{Text, text_cmp}
 use Rattle.dh_world.specs.Visibility.{may_see}
 use Rattle.dh_world.proofs.MapLemmas.{text_total}
@@ -11,7 +12,7 @@ use Rattle.dh_records.specs.Constraints.{RiseBySlug}
 use Rattle.dh_records.specs.declared.records.VersionRow.{VersionRow}
 use Rattle.dh_records.specs.declared.records.GrantRow.{GrantRow}
 use Rattle.dh_constraints.proofs.RunLemmas as run
-use Rattle.dh_class_names.specs.Rows.{is_granted, seen_under}
+use Rattle.dh_class_names.specs.Rows.{is_granted, seen_under, version_under}
 
 left : (a b : Bool) → (a && b) ≡ true → a ≡ true
 left true b e = refl
@@ -64,11 +65,11 @@ module _ (rows : List VersionRow) (slug : Text) (up : RiseBySlug rows) where
     pub none_there : (x : VersionRow) → n < length rows → x ≡ get_or rows n x → has_slug x ≡ false → find has_slug rows ≡ None
     none_there = run.found_not order has_slug (run.host_ties slug_in slug) rows rising n at.0 at.1
 
--- what is seen of a record that was found, or of none
-pub seen_of : (rows : List VersionRow) (grants : List GrantRow) (slug : Text) (o : Option VersionRow) → o ≡ find (λ r. bytes_eq r.version.slug slug) rows
-    → option_and_then (λ v. cond (may_see v (is_granted grants slug)) (Some v) None) (option_map (λ (r : VersionRow). r.version) o) ≡ seen_under rows grants slug
-seen_of rows grants slug o e = ap (λ (f : Option VersionRow). option_and_then (λ v. cond (may_see v (is_granted grants slug)) (Some v) None) (option_map (λ (r : VersionRow). r.version) f)) e
+-- what is seen of a version that was found, or of none
+pub seen_when : (rows : List VersionRow) (grants : List GrantRow) (slug : Text) (v : Version) → Some v ≡ version_under rows slug
+    → (b : Bool) → may_see v (is_granted grants slug) ≡ b → cond b (Some v) None ≡ seen_under rows grants slug
+seen_when rows grants slug v e b is =
+    ap (λ c. cond c (Some v) None) (sym is) ∙ ap (option_and_then (λ (w : Version). cond (may_see w (is_granted grants slug)) (Some w) None)) e
 
-pub seen_one : (rows : List VersionRow) (grants : List GrantRow) (slug : Text) (r : VersionRow) → Some r ≡ find (λ r. bytes_eq r.version.slug slug) rows
-    → (b : Bool) → may_see r.version (is_granted grants slug) ≡ b → cond b (Some r.version) None ≡ seen_under rows grants slug
-seen_one rows grants slug r e b is = ap (λ c. cond c (Some r.version) None) (sym is) ∙ seen_of rows grants slug (Some r) e
+pub seen_none : (rows : List VersionRow) (grants : List GrantRow) (slug : Text) → None ≡ version_under rows slug → None ≡ seen_under rows grants slug
+seen_none rows grants slug e = ap (option_and_then (λ (w : Version). cond (may_see w (is_granted grants slug)) (Some w) None)) e

@@ -1,3 +1,4 @@
 pub mod Rows
+pub mod Find
 pub mod Highest
 pub mod ClassNames

@@ -2,14 +2,14 @@
 ghost use Rattle.std.specs.Prelude.{◌≡◌, IfOk};
 ghost use Rattle.std.specs.Option.{option_copied};
 ghost use Rattle.dh_versions.specs.Aliases as aliases;
-ghost use Rattle.dh_records.specs.Constraints.{RiseBySlug};
-ghost use Rattle.dh_class_names.specs.Rows.{version_under};
+ghost use Rattle.dh_class_names.specs.Find.{FindsInTurn, FindsBy};
 ghost use Rattle.dh_class_names.specs.Highest as spec;
 ghost use Rattle.dh_class_names.specs.Highest.{IsHighest, IsPublic, IsSeenWith};
 
-use crate::lookups::row_under;
+use crate::find::Find;
 use dh_records::{GrantRow, VersionRow};
 use dh_versions::{Version, higher, release};
+use dh_world::{Refusal, may_see};
 use std::alloc::{AllocError, Global};
 
 fn is_release(alloc: Global, version: &Version) -> Result<bool, AllocError>
@@ -52,7 +52,7 @@ fn with_row<'a>(
     ensures { IfOk result (λ o. option_copied o
         ≡ spec.with_public (option_copied best.entry) row.now.version) }
 {
-    if row.version.active && !row.version.private {
+    if may_see(&row.version, false) {
         higher_of(alloc, best, &row.version)
     } else {
         Ok(best)
@@ -70,30 +70,8 @@ pub fn public_top(alloc: Global, rows: &[VersionRow]) -> Result<Option<&Version>
     Ok(best)
 }
 
-/// The higher of the best and the version that a grant opens; where it opens none, the best stays.
-fn with_grant<'a>(
-    alloc: Global,
-    rows: &'a [VersionRow],
-    best: Option<&'a Version>,
-    grant: &GrantRow,
-) -> Result<Option<&'a Version>, AllocError>
-    ensures { RiseBySlug rows.now → IfOk result (λ o. option_copied o
-        ≡ spec.with_opened (option_copied best.entry) (version_under rows.now grant.now.slug)) }
-{
-    match row_under(rows, grant.slug.as_str()) {
-        Some(row) => {
-            if row.version.active {
-                higher_of(alloc, best, &row.version)
-            } else {
-                Ok(best)
-            }
-        }
-        None => Ok(best),
-    }
-}
-
 /// The higher of the best and the version under a grant's slug, where there is one that is active; else the best stays.
-pub fn with_opened(
+fn with_opened(
     alloc: Global,
     best: Option<Version>,
     opened: Option<Version>,
@@ -113,18 +91,22 @@ pub fn with_opened(
 }
 
 /// The highest release that all callers see or the grants open; `public` is the highest that all callers see.
-pub fn granted_top<'a>(
+pub fn highest_with<V, F: Find<V>>(
+    finder: &F,
+    within: &mut V,
     alloc: Global,
-    rows: &'a [VersionRow],
     grants: &[GrantRow],
-    public: Option<&'a Version>,
-) -> Result<Option<&'a Version>, AllocError>
-    ensures { RiseBySlug rows.now → IsHighest (IsPublic rows.now) (option_copied public.entry)
-        → IfOk result (λ o. IsHighest (IsSeenWith rows.now grants.now) (option_copied o)) }
+    public: Option<Version>,
+) -> Result<Option<Version>, Refusal>
+    ensures finds { FindsInTurn (F.finding finder.now) within.old within.new result }
+    ensures value { FindsBy (F.finding finder.now) within.old within.new result
+        (λ rows o. IsHighest (IsPublic rows) public
+        → IsHighest (IsSeenWith rows grants.now) o) }
 {
     let mut best = public;
     for grant in grants {
-        best = with_grant(alloc, rows, best, grant)?;
+        let opened = finder.version(within, alloc, grant.slug.as_str())?;
+        best = with_opened(alloc, best, opened)?;
     }
     Ok(best)
 }

@@ -3,7 +3,7 @@ ghost use Rattle.std.specs.Prelude.{◌≡◌, find, option_map};
 ghost use Rattle.std.specs.List.Sorted.{IsSortedByKey};
 ghost use Rattle.std.specs.Str.{bytes_eq};
 ghost use Rattle.dh_world.specs.World.{text_cmp};
-ghost use Rattle.dh_world.specs.Visibility.{may_see};
+ghost use Rattle.dh_world.specs.Visibility as visibility;
 ghost use Rattle.dh_records.specs.Constraints.{RiseBySlug};
 ghost use Rattle.dh_class_names.specs.Rows as spec;
 ghost use Rattle.dh_class_names.specs.ClassNames as spec_of;
@@ -11,6 +11,7 @@ ghost use Rattle.dh_class_names.specs.ClassNames as spec_of;
 use dh_paths::Token;
 use dh_records::{GrantRow, VersionRow};
 use dh_versions::Version;
+use dh_world::may_see;
 
 fn has_slug(row: &VersionRow, slug: &str) -> bool
     ensures { result ≡ bytes_eq row.now.version.slug slug.now }
@@ -49,28 +50,10 @@ fn is_granted(grants: &[GrantRow], slug: &str) -> bool
 
 /// Whether a caller who has these grants sees the version under this slug.
 pub fn is_seen(version: &Version, grants: &[GrantRow], slug: &str) -> bool
-    ensures { result ≡ may_see version.now (spec.is_granted grants.now slug.now) }
+    ensures { result ≡ visibility.may_see version.now (spec.is_granted grants.now slug.now) }
 {
-    version.active && (!version.private || is_granted(grants, slug))
-}
-
-/// The record of the version under a slug, where a caller who has these grants sees it.
-pub fn seen_under<'a>(
-    rows: &'a [VersionRow],
-    grants: &[GrantRow],
-    slug: &str,
-) -> Option<&'a VersionRow>
-    ensures { RiseBySlug rows.now → option_map (λ r. r.now.version) result
-        ≡ spec.seen_under rows.now grants.now slug.now }
-{
-    match row_under(rows, slug) {
-        Some(row) => {
-            if is_seen(&row.version, grants, slug) {
-                Some(row)
-            } else {
-                None
-            }
-        }
-        None => None,
+    if !version.private {
+        return may_see(version, false);
     }
+    may_see(version, is_granted(grants, slug))
 }

@@ -1,27 +1,29 @@
 //! The names of a class, and of all classes of a host.
-ghost use Rattle.std.specs.Prelude.{◌≡◌, IfOk, List, [], map, Some, None, option_map};
+ghost use Rattle.std.specs.Prelude.{◌≡◌, ◌++◌, ◌∷◌, IfErr, IfOk, List, [], OnOk, map, Some, None};
 ghost use Rattle.std.specs.Option.{option_copied};
 ghost use Rattle.dh_texts.specs.SlugOfName.{slug_from};
 ghost use Rattle.dh_world.specs.World.{Project};
+ghost use Rattle.dh_world.specs.CheckResults.{IsFault};
 ghost use Rattle.dh_world.specs.Seen.{default_of};
-ghost use Rattle.dh_aliases.specs.Names as names;
-ghost use Rattle.dh_records.specs.Constraints.{RiseBySlug};
 ghost use Rattle.dh_records.specs.declared.records.GrantRow as grant_row;
+ghost use Rattle.dh_class_names.specs.Find.{FindsInTurn, FindsBy};
 ghost use Rattle.dh_class_names.specs.Rows as spec;
 ghost use Rattle.dh_class_names.specs.Highest.{IsHighest, IsPublic};
 ghost use Rattle.dh_class_names.specs.ClassNames.{AreRowsOf, class_names, classes_of};
 
 use crate::class_names::ClassNames;
-use crate::highest::{granted_top, public_top};
-use crate::lookups::{grants_of, seen_under};
-use dh_aliases::Names;
+use crate::find::{Find, InMemory};
+use crate::highest::{highest_with, public_top};
+use crate::lookups::{grants_of, is_seen};
+use dh_aliases::{Names, is_of_branch};
 use dh_paths::{RefName, Slug, TextFault, Token, slug_of};
 use dh_records::{DefaultRow, GrantRow, PassRow, VersionRow};
-use dh_versions::{Kind, Version};
+use dh_versions::Version;
+use dh_world::Refusal;
 use std::alloc::{AllocError, Global};
 
 /// The slug of the default branch, if its name has one.
-pub fn branch_slug(alloc: Global, branch: &RefName) -> Result<Option<Slug>, AllocError>
+fn branch_slug(alloc: Global, branch: &RefName) -> Result<Option<Slug>, AllocError>
     ensures { IfOk result (λ slug. slug ≡ slug_from branch.now) }
 {
     match slug_of(alloc, branch) {
@@ -31,38 +33,57 @@ pub fn branch_slug(alloc: Global, branch: &RefName) -> Result<Option<Slug>, Allo
     }
 }
 
-/// Whether the version is the branch of that name.
-pub fn is_of_branch(version: &Version, branch: &RefName) -> bool
-    ensures { result ≡ names.is_of_branch branch.now version.now }
+/// The version under a slug, where a caller who has these grants sees it.
+fn seen_under<V, F: Find<V>>(
+    finder: &F,
+    within: &mut V,
+    alloc: Global,
+    grants: &[GrantRow],
+    slug: &str,
+) -> Result<Option<Version>, Refusal>
+    ensures finds { FindsInTurn (F.finding finder.now) within.old within.new result }
+    ensures value { FindsBy (F.finding finder.now) within.old within.new result
+        (λ rows seen. seen ≡ spec.seen_under rows grants.now slug.now) }
 {
-    version.kind == Kind::Branch && version.name.as_str() == branch.as_str()
+    match finder.version(within, alloc, slug)? {
+        Some(version) => {
+            if is_seen(&version, grants, slug) {
+                Ok(Some(version))
+            } else {
+                Ok(None)
+            }
+        }
+        None => Ok(None),
+    }
 }
 
 /// The slug that `latest` stands for, to a caller who has these grants.
-fn latest_for(
+fn latest_for<V, F: Find<V>>(
+    finder: &F,
+    within: &mut V,
     alloc: Global,
-    rows: &[VersionRow],
-    grants: &[GrantRow],
     branch: &RefName,
-) -> Result<Option<Slug>, AllocError>
-    ensures { RiseBySlug rows.now
-        → IfOk result (λ slug. slug ≡ spec.latest_by rows.now grants.now branch.now) }
+    grants: &[GrantRow],
+) -> Result<Option<Slug>, Refusal>
+    ensures finds { FindsInTurn (F.finding finder.now) within.old within.new result }
+    ensures value { FindsBy (F.finding finder.now) within.old within.new result
+        (λ rows slug. slug ≡ spec.latest_by rows grants.now branch.now) }
 {
     let Some(slug) = branch_slug(alloc, branch)? else {
         return Ok(None);
     };
-    let Some(row) = seen_under(rows, grants, slug.as_str()) else {
+    let Some(version) = seen_under(finder, within, alloc, grants, slug.as_str())? else {
         return Ok(None);
     };
-    if is_of_branch(&row.version, branch) {
-        Ok(Some(row.version.slug.try_copy(alloc)?))
+    if is_of_branch(&version, branch) {
+        Ok(Some(version.slug))
     } else {
         Ok(None)
     }
 }
 
 /// Whether the name is an alias that stands for a version; `latest` and `stable` say whether each of them does.
-pub fn is_standing_alias(name: &str, latest: bool, stable: bool) -> bool
+fn is_standing_alias(name: &str, latest: bool, stable: bool) -> bool
     ensures { result ≡ spec.is_standing_alias latest stable name.now }
 {
     match name {
@@ -73,15 +94,25 @@ pub fn is_standing_alias(name: &str, latest: bool, stable: bool) -> bool
 }
 
 /// Whether the name stands for a version; `latest` and `stable` say whether each alias does.
-fn stands(rows: &[VersionRow], grants: &[GrantRow], latest: bool, stable: bool, name: &str) -> bool
-    ensures { RiseBySlug rows.now
-        → result ≡ spec.stands_by rows.now grants.now latest stable name.now }
+fn stands<V, F: Find<V>>(
+    finder: &F,
+    within: &mut V,
+    alloc: Global,
+    grants: &[GrantRow],
+    latest: bool,
+    stable: bool,
+    name: &str,
+) -> Result<bool, Refusal>
+    ensures finds { FindsInTurn (F.finding finder.now) within.old within.new result }
+    ensures value { FindsBy (F.finding finder.now) within.old within.new result
+        (λ rows yes. yes ≡ spec.stands_by rows grants.now latest stable name.now) }
 {
-    seen_under(rows, grants, name).is_some() || is_standing_alias(name, latest, stable)
+    let seen = seen_under(finder, within, alloc, grants, name)?;
+    Ok(seen.is_some() || is_standing_alias(name, latest, stable))
 }
 
 /// The name of an alias as a slug.
-pub fn alias_slug(alloc: Global, name: &str) -> Result<Slug, AllocError>
+fn alias_slug(alloc: Global, name: &str) -> Result<Slug, AllocError>
     ensures { IfOk result (λ slug. slug ≡ name.now) }
 {
     match Slug::parse(alloc, name) {
@@ -91,71 +122,71 @@ pub fn alias_slug(alloc: Global, name: &str) -> Result<Slug, AllocError>
 }
 
 /// `latest`, else `stable`, each if it stands for a version.
-fn default_alias(
+fn default_alias<V, F: Find<V>>(
+    finder: &F,
+    within: &mut V,
     alloc: Global,
-    rows: &[VersionRow],
     grants: &[GrantRow],
     latest: bool,
     stable: bool,
-) -> Result<Option<Slug>, AllocError>
-    ensures { RiseBySlug rows.now → IfOk result (λ name. name
-        ≡ default_of (spec.stands_by rows.now grants.now latest stable) []) }
+) -> Result<Option<Slug>, Refusal>
+    ensures finds { FindsInTurn (F.finding finder.now) within.old within.new result }
+    ensures value { FindsBy (F.finding finder.now) within.old within.new result
+        (λ rows name. name ≡ default_of (spec.stands_by rows grants.now latest stable) []) }
 {
-    if stands(rows, grants, latest, stable, "latest") {
+    if stands(finder, within, alloc, grants, latest, stable, "latest")? {
         return Ok(Some(alias_slug(alloc, "latest")?));
     }
-    if stands(rows, grants, latest, stable, "stable") {
+    if stands(finder, within, alloc, grants, latest, stable, "stable")? {
         return Ok(Some(alias_slug(alloc, "stable")?));
     }
     Ok(None)
 }
 
 /// The first default that stands for a version, else an alias.
-fn default_for(
+fn default_for<V, F: Find<V>>(
+    finder: &F,
+    within: &mut V,
     alloc: Global,
-    rows: &[VersionRow],
     grants: &[GrantRow],
     picks: &[DefaultRow],
     latest: bool,
     stable: bool,
-) -> Result<Option<Slug>, AllocError>
-    ensures { RiseBySlug rows.now → IfOk result (λ name. name ≡ default_of
-        (spec.stands_by rows.now grants.now latest stable) (map (λ d. d.name) picks.now)) }
+) -> Result<Option<Slug>, Refusal>
+    ensures finds { FindsInTurn (F.finding finder.now) within.old within.new result }
+    ensures value { FindsBy (F.finding finder.now) within.old within.new result
+        (λ rows name. name ≡ default_of (spec.stands_by rows grants.now latest stable)
+        (map (λ d. d.name) picks.now)) }
 {
     for pick in picks {
-        if stands(rows, grants, latest, stable, pick.name.as_str()) {
+        let name = pick.name.as_str();
+        if stands(finder, within, alloc, grants, latest, stable, name)? {
             return Ok(Some(pick.name.try_copy(alloc)?));
         }
     }
-    default_alias(alloc, rows, grants, latest, stable)
+    default_alias(finder, within, alloc, grants, latest, stable)
 }
 
-fn slug_in(alloc: Global, version: Option<&Version>) -> Result<Option<Slug>, AllocError>
-    ensures { IfOk result (λ slug. slug ≡ option_map (λ v. v.slug) (option_copied version.entry)) }
-{
-    match version {
-        Some(version) => Ok(Some(version.slug.try_copy(alloc)?)),
-        None => Ok(None),
-    }
-}
-
-/// The names of a caller who has these grants, where `stable` stands for this version.
-fn names_for(
+/// The names of a caller who has these grants, where `stable` stands for the version with this slug.
+pub fn names_for<V, F: Find<V>>(
+    finder: &F,
+    within: &mut V,
     alloc: Global,
     branch: &RefName,
-    rows: &[VersionRow],
     grants: &[GrantRow],
     picks: &[DefaultRow],
-    stable: Option<&Version>,
-) -> Result<Names, AllocError>
-    ensures { RiseBySlug rows.now → IfOk result (λ names. names ≡ spec.names_by rows.now
-        grants.now branch.now (map (λ d. d.name) picks.now)
-        (option_map (λ v. v.slug) (option_copied stable.entry))) }
+    stable: Option<Slug>,
+) -> Result<Names, Refusal>
+    ensures finds { FindsInTurn (F.finding finder.now) within.old within.new result }
+    ensures value { FindsBy (F.finding finder.now) within.old within.new result
+        (λ rows names. names ≡ spec.names_by rows grants.now branch.now
+        (map (λ d. d.name) picks.now) stable) }
 {
-    let latest = latest_for(alloc, rows, grants, branch)?;
+    let latest = latest_for(finder, within, alloc, branch, grants)?;
     let default = default_for(
+        finder,
+        within,
         alloc,
-        rows,
         grants,
         picks,
         latest.is_some(),
@@ -163,9 +194,18 @@ fn names_for(
     )?;
     Ok(Names {
         latest,
-        stable: slug_in(alloc, stable)?,
+        stable,
         default,
     })
+}
+
+fn copied(alloc: Global, version: Option<&Version>) -> Result<Option<Version>, AllocError>
+    ensures { IfOk result (λ copy. copy ≡ option_copied version.entry) }
+{
+    match version {
+        Some(version) => Ok(Some(version.try_copy(alloc)?)),
+        None => Ok(None),
+    }
 }
 
 /// The names of callers with no pass.
@@ -175,15 +215,18 @@ fn public_names(
     rows: &[VersionRow],
     picks: &[DefaultRow],
     public: Option<&Version>,
-) -> Result<ClassNames, AllocError>
-    ensures { (p : Project) (held : List grant_row.GrantRow)
+) -> Result<ClassNames, Refusal>
+    ensures err { IfErr result IsFault }
+    ensures value { (p : Project) (held : List grant_row.GrantRow)
         → AreRowsOf p branch.now rows.now held picks.now
         → IsHighest (IsPublic rows.now) (option_copied public.entry)
         → IfOk result (λ names. names ≡ class_names p None) }
 {
+    let finder = InMemory { rows };
+    let stable = copied(alloc, public)?.map(|v| v.slug);
     Ok(ClassNames {
         class: None,
-        names: names_for(alloc, branch, rows, &[], picks, public)?,
+        names: names_for(&finder, &mut (), alloc, branch, &[], picks, stable)?,
     })
 }
 
@@ -196,17 +239,26 @@ fn pass_names(
     picks: &[DefaultRow],
     public: Option<&Version>,
     pass: &Token,
-) -> Result<ClassNames, AllocError>
-    ensures { (p : Project) → AreRowsOf p branch.now rows.now held.now picks.now
+) -> Result<ClassNames, Refusal>
+    ensures err { IfErr result IsFault }
+    ensures value { (p : Project) → AreRowsOf p branch.now rows.now held.now picks.now
         → IsHighest (IsPublic rows.now) (option_copied public.entry)
         → IfOk result (λ names. names ≡ class_names p (Some pass.now)) }
 {
     let grants = grants_of(held, pass);
-    let stable = granted_top(alloc, rows, grants, public)?;
+    let finder = InMemory { rows };
+    let top = highest_with(&finder, &mut (), alloc, grants, copied(alloc, public)?)?;
+    let stable = top.map(|v| v.slug);
     Ok(ClassNames {
         class: Some(pass.try_copy(alloc)?),
-        names: names_for(alloc, branch, rows, grants, picks, stable)?,
+        names: names_for(&finder, &mut (), alloc, branch, grants, picks, stable)?,
     })
+}
+
+fn push(all: &mut Vec<ClassNames>, names: ClassNames) -> Result<(), AllocError>
+    ensures { OnOk result (all.new.items ≡ all.old.items ++ names ∷ []) }
+{
+    Ok(all.push(names)?)
 }
 
 /// The names of all classes of a project: of the callers with no pass, and then of each of these passes. Its
@@ -220,15 +272,19 @@ pub fn names_by_class(
     held: &[GrantRow],
     picks: &[DefaultRow],
     passes: &[PassRow],
-) -> Result<Vec<ClassNames>, AllocError>
-    ensures { (p : Project) → AreRowsOf p branch.now rows.now held.now picks.now
+) -> Result<Vec<ClassNames>, Refusal>
+    ensures err { IfErr result IsFault }
+    ensures value { (p : Project) → AreRowsOf p branch.now rows.now held.now picks.now
         → IfOk result (λ all. all.items ≡ map (class_names p) (classes_of passes.now)) }
 {
     let public = public_top(alloc, rows)?;
     let mut all = Vec::new(alloc);
-    all.push(public_names(alloc, branch, rows, picks, public)?)?;
+    push(&mut all, public_names(alloc, branch, rows, picks, public)?)?;
     for pass in passes {
-        all.push(pass_names(alloc, branch, rows, held, picks, public, &pass.pass)?)?;
+        push(
+            &mut all,
+            pass_names(alloc, branch, rows, held, picks, public, &pass.pass)?,
+        )?;
     }
     Ok(all)
 }

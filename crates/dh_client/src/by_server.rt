@@ -16,7 +16,9 @@ use dh_listings::lines_steer_nothing;
 use dh_ports::{Sink, Source, put_all};
 use dh_script::{MOST_SCRIPT_BYTES, Reason, RunFault, ScriptFault, has_words, read_script};
 use dh_sockets::{Ask, Silence};
-use dh_telling::{ControlFault, Failure, Status, Streams, tell_line, tell_refusal, tell_sentence};
+use dh_telling::{
+    ControlFault, Failure, Status, Streams, print_line, print_refusal, print_sentence,
+};
 use std::alloc::Global;
 
 /// Why a message has no answer that was printed.
@@ -136,15 +138,15 @@ fn ended_as(told: Option<Result<End, ScriptFault>>) -> Result<Option<Reason>, Co
 }
 
 /// Says why no server could be asked, where that is known.
-fn tell_silence<E: Sink>(silence: Silence, errors: &mut E)
+fn print_silence<E: Sink>(silence: Silence, errors: &mut E)
     ensures { TellsSome E.broken E.held errors.old errors.new }
 {
     match silence {
-        Silence::TooLong => tell_sentence(
+        Silence::TooLong => print_sentence(
             errors,
             "with .control behind it the path of this file has more than 107 bytes, too many for a control socket, so no server can be asked",
         ),
-        Silence::Stranger => tell_sentence(
+        Silence::Stranger => print_sentence(
             errors,
             "what stands beside this file, whose name ends in .control, is no socket of this user or of the file's owner, so it is not asked",
         ),
@@ -165,7 +167,7 @@ fn single_end<E: Sink>(
     let told = match heard {
         Ok(told) => told,
         Err(Unheard::Silent(silence)) => {
-            tell_silence(silence, errors);
+            print_silence(silence, errors);
             return Err(Failure::File(FileFault::Busy));
         }
         Err(Unheard::Unwritten) => return Err(Failure::Write),
@@ -173,7 +175,7 @@ fn single_end<E: Sink>(
     match ended_as(told) {
         Ok(None) => Ok(Status::Done),
         Ok(refused) => {
-            tell_refusal(alloc, order, refused, errors);
+            print_refusal(alloc, order, refused, errors);
             Ok(Status::Refused)
         }
         Err(fault) => Err(Failure::Control(fault)),
@@ -215,7 +217,7 @@ fn line_end<E: Sink>(
     let told = match heard {
         Ok(told) => told,
         Err(Unheard::Silent(silence)) if is_first => {
-            tell_silence(silence, errors);
+            print_silence(silence, errors);
             return Err(Failure::File(FileFault::Busy));
         }
         Err(Unheard::Silent(_)) => return Err(Failure::Control(ControlFault::Gone)),
@@ -225,7 +227,7 @@ fn line_end<E: Sink>(
     };
     match ended_as(told) {
         Ok(Some(reason)) => {
-            tell_line(alloc, errors, number, reason.sentence());
+            print_line(alloc, errors, number, reason.sentence());
             Ok(())
         }
         Ok(None) => Ok(()),

@@ -5,20 +5,20 @@ ghost use Rattle.std.specs.List.{IsDistinct, list_any, range_with_len};
 ghost use Rattle.std.specs.Str.{bytes_eq};
 ghost use Rattle.dh_records.specs.Constraints.{AreDefaults, AreLanguages, HavePlaces};
 
-use crate::rows::{Named, Placed};
+use crate::rows::{NamedRow, PlacedRow};
 use dh_paths::Lang;
 use dh_records::{DefaultRow, LangRow};
 use dh_world::MOST_LANGUAGES;
 
 /// Whether a record has this name.
-pub fn is_among<R: Named>(rows: &[R], name: &str) -> bool
+pub fn is_among<R: NamedRow>(rows: &[R], name: &str) -> bool
     ensures { result ≡ list_any (λ r. bytes_eq (R.name_of r) name.now) rows.now }
 {
     rows.iter().any(|r| r.name() == name)
 }
 
 /// Whether no name stands twice.
-fn are_apart<R: Named>(rows: &[R]) -> bool
+fn are_apart<R: NamedRow>(rows: &[R]) -> bool
     ensures { IsTrue result ↔ IsDistinct bytes_eq (map R.name_of rows.now) }
 {
     let mut rest = rows;
@@ -32,7 +32,7 @@ fn are_apart<R: Named>(rows: &[R]) -> bool
 }
 
 /// Whether the places are 1 to n without gaps.
-fn have_all_places<R: Placed>(rows: &[R]) -> bool
+fn have_all_places<R: PlacedRow>(rows: &[R]) -> bool
     ensures { IsTrue result ↔ (map R.place_of rows.now ≡ range_with_len 1 (length rows.now)) }
 {
     for (i, row) in rows.iter().enumerate() {
@@ -43,7 +43,7 @@ fn have_all_places<R: Placed>(rows: &[R]) -> bool
     true
 }
 
-pub fn have_places<R: Placed>(rows: &[R], most: usize) -> bool
+pub fn have_places<R: PlacedRow>(rows: &[R], most: usize) -> bool
     ensures { IsTrue result ↔ HavePlaces R.place_of most rows.now }
 {
     rows.len() <= most && have_all_places(rows)

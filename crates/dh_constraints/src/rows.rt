@@ -80,14 +80,14 @@ impl Hosted for RedirectRow {
 }
 
 /// A record with a name of its own under its host.
-pub trait Named: Hosted {
+pub trait NamedRow: Hosted {
     ghost name_of: { Self → List ℕ };
 
     fn name(&self) -> &str
         ensures { result.now ≡ name_of self.now };
 }
 
-impl Named for LangRow {
+impl NamedRow for LangRow {
     ghost name_of = { λ r. r.lang };
 
     fn name(&self) -> &str {
@@ -95,7 +95,7 @@ impl Named for LangRow {
     }
 }
 
-impl Named for VersionRow {
+impl NamedRow for VersionRow {
     ghost name_of = { λ r. r.version.slug };
 
     fn name(&self) -> &str {
@@ -103,7 +103,7 @@ impl Named for VersionRow {
     }
 }
 
-impl Named for DefaultRow {
+impl NamedRow for DefaultRow {
     ghost name_of = { λ r. r.name };
 
     fn name(&self) -> &str {
@@ -111,7 +111,7 @@ impl Named for DefaultRow {
     }
 }
 
-impl Named for PassRow {
+impl NamedRow for PassRow {
     ghost name_of = { λ r. r.pass };
 
     fn name(&self) -> &str {
@@ -120,14 +120,14 @@ impl Named for PassRow {
 }
 
 /// A record that stands at a place under its host.
-pub trait Placed {
+pub trait PlacedRow {
     ghost place_of: { Self → ℕ };
 
     fn place(&self) -> u64
         ensures { result ≡ place_of self.now };
 }
 
-impl Placed for LangRow {
+impl PlacedRow for LangRow {
     ghost place_of = { λ r. r.place };
 
     fn place(&self) -> u64 {
@@ -135,7 +135,7 @@ impl Placed for LangRow {
     }
 }
 
-impl Placed for DefaultRow {
+impl PlacedRow for DefaultRow {
     ghost place_of = { λ r. r.rank };
 
     fn place(&self) -> u64 {
@@ -143,7 +143,7 @@ impl Placed for DefaultRow {
     }
 }
 
-impl Placed for RuleRow {
+impl PlacedRow for RuleRow {
     ghost place_of = { λ r. r.place };
 
     fn place(&self) -> u64 {
@@ -151,7 +151,7 @@ impl Placed for RuleRow {
     }
 }
 
-impl Placed for RedirectRow {
+impl PlacedRow for RedirectRow {
     ghost place_of = { λ r. r.place };
 
     fn place(&self) -> u64 {

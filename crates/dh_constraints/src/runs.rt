@@ -6,7 +6,7 @@ ghost use Rattle.std.specs.Ordering.{is_lt};
 ghost use Rattle.std.specs.Str.{bytes_eq};
 ghost use Rattle.dh_world.specs.World.{text_cmp, pair_cmp};
 
-use crate::rows::{Hosted, Named};
+use crate::rows::{Hosted, NamedRow};
 use dh_paths::HostName;
 
 /// The records of a host, which stand side by side.
@@ -20,7 +20,7 @@ pub fn run_of<'a, R: Hosted>(rows: &'a [R], host: &HostName) -> &'a [R]
     &rest[..count]
 }
 
-fn is_before<R: Named>(row: &R, host: &HostName, name: &str) -> bool
+fn is_before<R: NamedRow>(row: &R, host: &HostName, name: &str) -> bool
     ensures { result ≡ is_lt (pair_cmp text_cmp text_cmp
         (R.host_of row.now, R.name_of row.now) (host.now, name.now)) }
 {
@@ -31,7 +31,7 @@ fn is_before<R: Named>(row: &R, host: &HostName, name: &str) -> bool
         .is_lt()
 }
 
-fn is_named<R: Named>(row: &R, host: &HostName, name: &str) -> bool
+fn is_named<R: NamedRow>(row: &R, host: &HostName, name: &str) -> bool
     ensures { result ≡
         (bytes_eq (R.host_of row.now) host.now && bytes_eq (R.name_of row.now) name.now) }
 {
@@ -39,7 +39,7 @@ fn is_named<R: Named>(row: &R, host: &HostName, name: &str) -> bool
 }
 
 /// The record of this name under the host, where there is one.
-pub fn named_in<'a, R: Named>(rows: &'a [R], host: &HostName, name: &str) -> Option<&'a R>
+pub fn named_in<'a, R: NamedRow>(rows: &'a [R], host: &HostName, name: &str) -> Option<&'a R>
     requires { IsSortedByKey (λ r. (R.host_of r, R.name_of r)) (pair_cmp text_cmp text_cmp)
         rows.now }
     ensures { option_map (λ r. r.now) result ≡ find

@@ -16,7 +16,7 @@ pub enum End {
     Done,
     /// Its order was refused or failed, or is a read of a bad target, for this reason.
     Refused(Reason),
-    /// The message is none of this version, and nothing is done.
+    /// The message is of another version, and nothing is done.
     Unknown,
     /// The message is for the server of another file, and nothing is done.
     Elsewhere,

@@ -7,7 +7,7 @@ use Rattle.dh_texts.specs.SlugOfName.{slug_from}
 use Rattle.dh_versions.specs.declared.version.Version.{Version}
 use Rattle.dh_versions.specs.Aliases.{is_release, is_above}
 use Rattle.dh_world.specs.Changes.{with_version, without_pages}
-use Rattle.dh_world.specs.Seen.{is_alias, is_own_pass}
+use Rattle.dh_world.specs.Seen.{is_alias, shows_pass}
 use Rattle.dh_world.specs.World.{Text, Project}
 use Rattle.dh_classes.specs.Classes.{versions_for}
 use Rattle.dh_aliases.specs.Tops.{AreNamed, stable_version}
@@ -27,7 +27,7 @@ use Rattle.dh_derived.specs.declared.renewals.Renewal.TheVariants.{Nothing, Rout
 abbrev pub is_covered : Renewal → Project → Option Text → AliasName → Bool
 is_covered Nothing p class name = false
 is_covered Routes p class name = false
-is_covered (Class pass) p class name = is_own_pass class pass
+is_covered (Class pass) p class name = shows_pass class pass
 is_covered Aliases p class name = has_class p class
 
 -- the renewal covers the routes

@@ -1,14 +1,15 @@
 //! Which stored rows of its host must be made right after an edit of a project.
 
 ghost use Rattle.std.specs.Prelude.{◌≡◌, false, IfOk, IsTrue, option_map};
-ghost use Rattle.dh_world.specs.Visibility.{may_see};
-ghost use Rattle.dh_aliases.specs.Names as names;
+ghost use Rattle.dh_world.specs.Visibility as visibility;
 ghost use Rattle.dh_derived.specs.Renewals as spec;
 ghost use Rattle.dh_derived.specs.Renewals.{FitsEdit, FitsAdded, FitsBehind, FitsReplaced, is_low};
 
+use dh_aliases::is_of_branch;
 use dh_paths::{RefName, Token};
 use dh_plans::{Edit, is_alias};
-use dh_versions::{Kind, Version, higher, release};
+use dh_versions::{Version, higher, release};
+use dh_world::may_see;
 use std::alloc::{AllocError, Global};
 
 /// Which rows of a host must be made right.
@@ -123,15 +124,9 @@ pub fn renewal_of_replaced(was: &Version, version: &Version) -> Renewal
 
 /// Whether callers with no pass see the version.
 pub fn is_seen_by_all(version: &Version) -> bool
-    ensures { result ≡ may_see version.now false }
+    ensures { result ≡ visibility.may_see version.now false }
 {
-    version.active && !version.private
-}
-
-fn is_of_branch(branch: &RefName, version: &Version) -> bool
-    ensures { result ≡ names.is_of_branch branch.now version.now }
-{
-    version.kind == Kind::Branch && version.name.as_str() == branch.as_str()
+    may_see(version, false)
 }
 
 /// Whether a version is no release, or not above the stable one.
@@ -163,7 +158,7 @@ pub fn renewal_of_added(
     if !is_seen_by_all(version) {
         return Ok(Renewal::Nothing);
     }
-    if is_of_branch(branch, version) {
+    if is_of_branch(version, branch) {
         return Ok(Renewal::Aliases);
     }
     if is_alias(&version.slug) {

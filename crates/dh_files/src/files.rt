@@ -9,7 +9,7 @@ ghost use Rattle.dh_opening.specs.Migrating.{IsMigrated};
 ghost use Rattle.dh_files.specs.Settling.{IsServed, IsSettledBy};
 
 use crate::fault::FileFault;
-use crate::looking::{Found, cause_of, look, make};
+use crate::looking::{FoundFile, cause_of, look, make};
 use dh_desk::Desk;
 use dh_opening::{TablesFault, count_projects};
 use sqlite::{Alter, Connection, FileFrom, FileStore, Start};
@@ -58,9 +58,9 @@ fn make_tables<S: Alter + Drop>(conn: Connection<S>) -> Result<Connection<S>, Fi
 /// permissions.
 pub fn init_file<S: Start>(rt: &HostRuntime, path: &str, start: S) -> Result<(), FileFault> {
     match look(rt, path)? {
-        Found::Other => return Err(FileFault::Taken),
-        Found::Nothing => make(rt, path)?,
-        Found::Empty | Found::Database => {}
+        FoundFile::Other => return Err(FileFault::Taken),
+        FoundFile::Nothing => make(rt, path)?,
+        FoundFile::Empty | FoundFile::Database => {}
     }
     close(make_tables(connect(rt, path, start)?)?)
 }
@@ -94,10 +94,10 @@ fn connect_to_database<S: Start>(
     ensures { IfOk result (λ conn. conn.in_transaction ≡ false) }
 {
     match look(rt, path)? {
-        Found::Nothing => Err(FileFault::Missing),
-        Found::Empty => Err(FileFault::Empty),
-        Found::Other => Err(FileFault::NoDatabase),
-        Found::Database => connect(rt, path, start),
+        FoundFile::Nothing => Err(FileFault::Missing),
+        FoundFile::Empty => Err(FileFault::Empty),
+        FoundFile::Other => Err(FileFault::NoDatabase),
+        FoundFile::Database => connect(rt, path, start),
     }
 }
 

@@ -16,7 +16,7 @@ const VERSION: [u8; 4] = [0, 46, 118, 136];
 
 /// What stands at a path.
 #[derive(Clone, Copy, Debug, PartialEq, Eq)]
-pub enum Found {
+pub enum FoundFile {
     /// No file.
     Nothing,
     /// An empty file, and no log beside it that may hold its content.
@@ -49,10 +49,10 @@ fn begins_as_database(rt: &HostRuntime, path: &str) -> Result<bool, FileFault> {
 }
 
 /// Looks at what stands at a path.
-pub fn look(rt: &HostRuntime, path: &str) -> Result<Found, FileFault> {
+pub fn look(rt: &HostRuntime, path: &str) -> Result<FoundFile, FileFault> {
     let about = match fs::metadata(rt, path) {
         Ok(about) => about,
-        Err(error) if error.kind() == io::ErrorKind::NotFound => return Ok(Found::Nothing),
+        Err(error) if error.kind() == io::ErrorKind::NotFound => return Ok(FoundFile::Nothing),
         Err(error) => return Err(FileFault::from(error)),
     };
     if about.is_dir() {
@@ -63,13 +63,13 @@ pub fn look(rt: &HostRuntime, path: &str) -> Result<Found, FileFault> {
     }
     let is_database = begins_as_database(rt, path)?;
     if is_database || has_log(rt, path)? {
-        return Ok(Found::Database);
+        return Ok(FoundFile::Database);
     }
     // (the store leaves one byte where it was stopped while it made a file)
     if about.len() < 2 {
-        return Ok(Found::Empty);
+        return Ok(FoundFile::Empty);
     }
-    Ok(Found::Other)
+    Ok(FoundFile::Other)
 }
 
 /// Makes an empty file, which its owner alone may read and write. Where something stands at the name by then, the store tells

@@ -14,7 +14,7 @@ use crate::subject::{Note, Ordered, Subject};
 pub struct Answered<'a> {
     pub level: Level,
     pub outcome: Word<'a>,
-    /// Why the request is a bad one; empty where it is none.
+    /// Why the request is a bad one; empty where it is not.
     pub reason: &'a str,
     /// The first line of the request.
     pub line: &'a [u8],

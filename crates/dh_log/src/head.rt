@@ -37,7 +37,7 @@ pub fn text_in(bytes: &[u8]) -> &str
     }
 }
 
-/// Whether the line is one of a request, whose third word names the protocol: a line that is none may have a key.
+/// Whether the line is the first of a request, whose third word names the protocol: another line may have a key.
 fn is_request_line(line: &[u8]) -> bool
     ensures { result ≡ spec.is_request_line line.now }
 {
@@ -61,7 +61,7 @@ fn path_of(target: &[u8]) -> &[u8]
     }
 }
 
-/// The method in the first line of a request; empty where the line is none of a request.
+/// The method in the first line of a request; empty where the line is not that of a request.
 pub fn method_in(line: &[u8]) -> &str
     ensures { result.now ≡ spec.method_in line.now }
 {
@@ -72,7 +72,7 @@ pub fn method_in(line: &[u8]) -> &str
     }
 }
 
-/// The path in the first line of a request, without the query; empty where the line is none of a request.
+/// The path in the first line of a request, without the query; empty where the line is not that of a request.
 pub fn path_in(line: &[u8]) -> &str
     ensures { result.now ≡ spec.path_in line.now }
 {

@@ -15,8 +15,8 @@ use Rattle.dh_migrating.specs.Converting.{CarriesTo}
 use Rattle.dh_tables.proofs.OrderLemmas.{in_order}
 use Rattle.dh_opening.specs.declared.fault.TablesFault.{TablesFault}
 use Rattle.dh_opening.specs.declared.fault.TablesFault.TheVariants.{NotOurs, OldSchema, Failed}
-use Rattle.dh_opening.specs.declared.opening.Found.{Found}
-use Rattle.dh_opening.specs.declared.opening.Found.TheVariants.{Old, Ours}
+use Rattle.dh_opening.specs.declared.opening.FoundTables.{FoundTables}
+use Rattle.dh_opening.specs.declared.opening.FoundTables.TheVariants.{Old, Ours}
 use Rattle.dh_opening.specs.Opening.{IsDerivedBy, IsFound, IsNumbered, IsOurs, OnFailed, OnNotOurs, OnOldSchema, JudgesTables}
 use Rattle.dh_opening.specs.Filling.{AreMadeAnew, BringsBy, IsAtRest, IsNothingChanged, IsOpened, LacksDerived, LeavesBrought, OpensTables}
 use Rattle.dh_opening.proofs.FillLemmas.{ours_brought}
@@ -226,7 +226,7 @@ module _ {S : Type 0} {g : Ghosts S} where
   -- ---- tables that are opened
 
   -- what a look finds of tables that were ours, for what comes after it
-  module _ {a b : Held S} {N : Database → Type 0} (known : Found) (first : JudgesTables g a b (Ok known) (λ db found. IsFound found db) N) where
+  module _ {a b : Held S} {N : Database → Type 0} (known : FoundTables) (first : JudgesTables g a b (Ok known) (λ db found. IsFound found db) N) where
     pub ours_then : (derived : Bool) → known ≡ Ours derived → IsHonest g b → IsOurs (state g b).now × IsDerivedBy derived (state g b).now
     ours_then derived is honest = subst (IsFound (Ours derived)) (sym (first.same honest.0).now_is) (subst (λ k. IsFound k (state g a).now) is (first.found honest.0).1)
 
@@ -252,7 +252,7 @@ module _ {S : Type 0} {g : Ghosts S} where
 
   -- tables of schema 1
   pub old_opens
-      : {a b : Held S} {N : Database → Type 0} (known : Found) → known ≡ Old → JudgesTables g a b (Ok known) (λ db found. IsFound found db) N → OpensTables g a b (Err OldSchema)
+      : {a b : Held S} {N : Database → Type 0} (known : FoundTables) → known ≡ Old → JudgesTables g a b (Ok known) (λ db found. IsFound found db) N → OpensTables g a b (Err OldSchema)
   old_opens {a} {b} known is it = record {
     brings = record {
       lasts = it.goes.lasts;
@@ -269,7 +269,7 @@ module _ {S : Type 0} {g : Ghosts S} where
 
   -- tables that were found ours, of which those of derived records are made anew where they do not stand with records
   pub then_opens
-      : {a b c : Held S} {N : Database → Type 0} (known : Found) (derived : Bool) → known ≡ Ours derived → (r : Result (Unit {0}) TablesFault) → JudgesTables g a b (Ok known) (λ db found. IsFound found db) N
+      : {a b c : Held S} {N : Database → Type 0} (known : FoundTables) (derived : Bool) → known ≡ Ours derived → (r : Result (Unit {0}) TablesFault) → JudgesTables g a b (Ok known) (λ db found. IsFound found db) N
       → BringsBy g b c r IsOpened ⊥ (LacksDerived (state g b).now) → OnOldSchema r ⊥
       → (IsTrue derived → (c ≡ b) × OnErr r ⊥) → OpensTables g a c r
   then_opens {a} {b} {c} known derived is r first next current none = record {

@@ -26,8 +26,8 @@ use Rattle.dh_schema.specs.Making.{derived_tables}
 use Rattle.dh_ports.specs.declared.fault.Fault.TheVariants as fault
 use Rattle.dh_opening.specs.declared.fault.TablesFault.{TablesFault}
 use Rattle.dh_opening.specs.declared.fault.TablesFault.TheVariants.{NotOurs, OldSchema, Failed}
-use Rattle.dh_opening.specs.declared.opening.Found.{Found}
-use Rattle.dh_opening.specs.declared.opening.Found.TheVariants.{Old, Ours}
+use Rattle.dh_opening.specs.declared.opening.FoundTables.{FoundTables}
+use Rattle.dh_opening.specs.declared.opening.FoundTables.TheVariants.{Old, Ours}
 use Rattle.dh_opening.specs.OurTables.{OfEach, other_tables}
 
 -- ---- records
@@ -113,7 +113,7 @@ pub record IsOurs (db : Database) : Type 0 where
   pub derived : MayDerive db
 
 -- By the answer, the number of the schema is 1, or the database is ours, with its tables of derived records or without.
-abbrev pub IsFound : Found → Database → Type 0
+abbrev pub IsFound : FoundTables → Database → Type 0
 IsFound Old db = IsNumbered db 1
 IsFound (Ours derived) db = IsOurs db × IsDerivedBy derived db
 

@@ -21,7 +21,9 @@ ghost use Rattle.dh_opening.specs.Migrating.{IsBehind, IsMigrated, IsOld, IsShow
 
 use crate::fault::TablesFault;
 use crate::filling::{complete, fill};
-use crate::opening::{Found, check_database, check_derived, finish, kept_records, show_settled};
+use crate::opening::{
+    FoundTables, check_database, check_derived, finish, kept_records, show_settled,
+};
 use crate::shapes::are_old;
 use crate::tables::read_table;
 use dh_constraints::Records;
@@ -129,8 +131,8 @@ fn update<S: Alter>(conn: &mut Connection<S>, alloc: Global) -> Result<(), Table
     ensures migrates { MigratesTables S.Store conn.old conn.new result }
 {
     match check_database(conn, alloc)? {
-        Found::Old => migrate_tables(conn, alloc),
-        Found::Ours(derived) => complete(conn, derived),
+        FoundTables::Old => migrate_tables(conn, alloc),
+        FoundTables::Ours(derived) => complete(conn, derived),
     }
 }
 

@@ -99,7 +99,7 @@ fn check_tables<S: Alter>(conn: &mut Connection<S>, alloc: Global) -> Result<boo
 
 /// What a look at a database finds.
 #[derive(Clone, Copy)]
-pub enum Found {
+pub enum FoundTables {
     /// Tables of schema 1, of which only the number was read.
     Old,
     /// Tables of ours; false where those of derived records have to be made anew.
@@ -112,14 +112,14 @@ pub enum Found {
 pub(crate) fn check_database<S: Alter>(
     conn: &mut Connection<S>,
     alloc: Global,
-) -> Result<Found, TablesFault>
+) -> Result<FoundTables, TablesFault>
     requires unlimited { conn.old.step_limit ≡ None }
     ensures opens { JudgesTables S.Store conn.old conn.new result
         (λ db found. IsFound found db) (λ db. ¬ IsOurs db × ¬ IsNumbered db 1) }
 {
     match number_of(conn, alloc)? {
-        1 => Ok(Found::Old),
-        2 => Ok(Found::Ours(check_tables(conn, alloc)?)),
+        1 => Ok(FoundTables::Old),
+        2 => Ok(FoundTables::Ours(check_tables(conn, alloc)?)),
         _ => Err(TablesFault::NotOurs),
     }
 }
@@ -182,8 +182,8 @@ fn open_tables<S: Alter>(conn: &mut Connection<S>, alloc: Global) -> Result<(), 
     ensures opens { OpensTables S.Store conn.old conn.new result }
 {
     match check_database(conn, alloc)? {
-        Found::Old => Err(TablesFault::OldSchema),
-        Found::Ours(derived) => complete(conn, derived),
+        FoundTables::Old => Err(TablesFault::OldSchema),
+        FoundTables::Ours(derived) => complete(conn, derived),
     }
 }
 

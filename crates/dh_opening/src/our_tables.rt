@@ -1,6 +1,6 @@
 //! Our tables, each with the test whether a row of it keeps a record.
 
-ghost use Rattle.std.specs.Prelude.{◌<◌, ◌^◌, [], ◌∷◌};
+ghost use Rattle.std.specs.Prelude.{[], ◌∷◌};
 ghost use Rattle.dh_schema.specs.Tables as spec;
 ghost use Rattle.dh_opening.specs.OurTables as ours;
 
@@ -8,7 +8,7 @@ use crate::kept::{Kept, Layout};
 use crate::rows::{has_values, is_number, value_at};
 use dh_records::{
     AliasRow, DefaultRow, GrantRow, LangRow, PageRow, PassRow, ProjectRow, RedirectRow, RetryRow,
-    RouteRow, RuleRow, VersionRow, action_number, is_tag, kind_number, show_number,
+    RouteRow, RuleRow, VersionRow, action_number, is_tag, kind_number, show_number, show_status,
 };
 use dh_rows::Shape;
 use dh_world::{Answer, Operation};
@@ -16,13 +16,6 @@ use sqlite::types::ToSql;
 use sqlite::{Row, params};
 use sqlite_schema::schema::Kind;
 use std::alloc::{AllocError, Global};
-
-/// States that a number fits 16 bits, as its type says; does nothing.
-fn show_status(n: u16)
-    ensures { n < 2 ^ 16 }
-{
-    let _ = n;
-}
 
 /// Our tables but those of the number, of passes and of derived records, in the order in which they are made.
 pub const OTHERS: [Layout; 9] = [

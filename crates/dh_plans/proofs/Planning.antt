@@ -10,7 +10,7 @@ use Rattle.dh_plans.specs.Edits.{edited, all_edited, MayEditAll, MayRunOut, Plan
 use Rattle.dh_plans.specs.Knowing.{AnswersAsked, KnowsProject, DecidesChange}
 use Rattle.dh_plans.specs.Planned.{Planned}
 use Rattle.dh_plans.specs.Asking.{has_right_key, asked_by}
-use Rattle.dh_plans.specs.Questions.{Asked, nothing}
+use Rattle.dh_plans.specs.Questions.{SeenQuestions, nothing}
 use Rattle.dh_checks.specs.declared.checking.CheckedChange.{CheckedChange}
 use Rattle.dh_plans.specs.declared.edits.Edit.{Edit}
 use Rattle.dh_plans.specs.declared.facts.Facts.{Facts}
@@ -30,7 +30,7 @@ pub answered : (c : CheckedChange) (f : Facts) (p : Project) → KnowsProject c 
 answered c f p k right = subst (λ b. AnswersAsked (cond b (asked_by c) nothing) f p) right k.answers
 
 -- the version that was found has the slug that was asked for, which comes from its name
-pub is_asked : (q : Asked) (f : Facts) (p : Project) → AnswersAsked q f p → (v : Version) → f.version ≡ Some v → (Some v.slug ≡ q.version) × (slug_from v.name ≡ Some v.slug)
+pub is_asked : (q : SeenQuestions) (f : Facts) (p : Project) → AnswersAsked q f p → (v : Version) → f.version ≡ Some v → (Some v.slug ≡ q.version) × (slug_from v.name ≡ Some v.slug)
 is_asked q f p a v e = subst (λ o. IfSome o (λ (y : Version). (Some y.slug ≡ q.version) × (slug_from y.name ≡ Some y.slug))) e a.named
 
 pub same_slug : (a b : Text) → Some a ≡ Some b → a ≡ b

@@ -7,18 +7,18 @@ use Rattle.dh_world.specs.declared.operation.Operation.TheVariants as operation
 use Rattle.dh_checks.specs.declared.checking.CheckedChange.{CheckedChange}
 use Rattle.dh_checks.specs.declared.checking.CheckedChange.TheVariants.{NewProject, AddLang, Push, Upload, SetProperty, Deactivate, Gone, SetDefault, AddRule, DropRule, AddRedirect, DropRedirect, ImportRedirects, AddPass, DropPass, Grant, Revoke}
 use Rattle.dh_checks.specs.declared.checked.ProjectSettings.{ProjectSettings}
-use Rattle.dh_plans.specs.Questions.{Asked, nothing, version_named}
+use Rattle.dh_plans.specs.Questions.{SeenQuestions, nothing, version_named}
 
 -- asks for the version with a slug
-abbrev pub of_version : Text → Asked
+abbrev pub of_version : Text → SeenQuestions
 of_version slug = record nothing { version = Some slug }
 
 -- asks for the version with a slug, and for the first answer to a retry key
-abbrev pub of_retried : Text → Operation → Text → Asked
+abbrev pub of_retried : Text → Operation → Text → SeenQuestions
 of_retried slug operation key = record (of_version slug) { retry_key = Some (slug, (op_code operation, key)) }
 
 -- what a command with the right write key asks
-abbrev pub asked_by : CheckedChange → Asked
+abbrev pub asked_by : CheckedChange → SeenQuestions
 asked_by (NewProject x) = nothing
 asked_by (AddLang lang) = record nothing { languages = true }
 asked_by (Push x) = record (of_retried x.slug operation.Push x.key) { defaults = true; rules = true }
@@ -44,5 +44,5 @@ has_right_key (Upload x) s = bytes_eq x.wkey s.wkey
 has_right_key _ s = true
 
 -- what a command asks of a project with these settings: with a wrong write key nothing
-abbrev pub asked : CheckedChange → ProjectSettings → Asked
+abbrev pub asked : CheckedChange → ProjectSettings → SeenQuestions
 asked c s = if has_right_key c s then asked_by c else nothing

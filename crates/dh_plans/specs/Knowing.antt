@@ -14,7 +14,7 @@ use Rattle.dh_checks.specs.Commands.{change_of}
 use Rattle.dh_plans.specs.Asking.{asked}
 use Rattle.dh_plans.specs.Edits.{PlansChange}
 use Rattle.dh_plans.specs.Planned.{Planned}
-use Rattle.dh_plans.specs.Questions.{Asked}
+use Rattle.dh_plans.specs.Questions.{SeenQuestions}
 use Rattle.dh_checks.specs.declared.checking.CheckedChange.{CheckedChange}
 use Rattle.dh_plans.specs.declared.facts.Facts.{Facts}
 use Rattle.dh_checks.specs.declared.checked.ProjectSettings.{ProjectSettings}
@@ -27,7 +27,7 @@ pub record HasSettings (p : Project) (s : ProjectSettings) : Type 0 where
   pub wkey : p.wkey ≡ s.wkey
 
 -- the answers to these questions are this project's; what is not asked is empty
-pub record AnswersAsked (q : Asked) (f : Facts) (p : Project) : Type 0 where
+pub record AnswersAsked (q : SeenQuestions) (f : Facts) (p : Project) : Type 0 where
   pub version : option_and_then (get p.versions) q.version ≡ f.version
   -- the version has the slug that was asked for, which comes from its name
   pub named : IfSome f.version (λ v. (Some v.slug ≡ q.version) × (slug_from v.name ≡ Some v.slug))

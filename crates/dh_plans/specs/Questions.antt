@@ -5,7 +5,7 @@ use Rattle.dh_world.specs.Seen.{is_alias}
 use Rattle.dh_plans.specs.declared.questions.Questions.{Questions}
 
 -- the questions, with what they refer to
-pub record Asked : Type 0 where
+pub record SeenQuestions : Type 0 where
   -- the slug of a version
   pub version : Option Text
   pub retry_key : Option UsedKey
@@ -16,10 +16,10 @@ pub record Asked : Type 0 where
   pub pass : Option Text
   pub pass_count : Bool
 
-abbrev pub nothing : Asked
+abbrev pub nothing : SeenQuestions
 nothing = record { version = None; retry_key = None; languages = false; defaults = false; rules = false; redirects = false; pass = None; pass_count = false }
 
-abbrev pub seen_questions : Questions → Asked
+abbrev pub seen_questions : Questions → SeenQuestions
 seen_questions q = record {
   version = option_map (λ slug. slug.now) q.version;
   retry_key = option_map (λ k. (k.slug.now, (op_code k.operation, k.key.now))) q.retry_key;

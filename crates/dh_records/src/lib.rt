@@ -11,4 +11,4 @@ pub use records::{
     RetryRow, Route, RouteRow, RuleRow, VersionRow, action_number, alias_number, class_text,
     is_tag, kind_number,
 };
-pub use values::show_number;
+pub use values::{show_number, show_status};

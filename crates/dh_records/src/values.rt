@@ -19,6 +19,13 @@ pub fn show_number(n: u32)
     let _ = n;
 }
 
+/// States that a status fits 16 bits, as its type says; does nothing.
+pub fn show_status(status: u16)
+    ensures { status < 2 ^ 16 }
+{
+    let _ = status;
+}
+
 /// The end of a pass as its column holds it, -1 for none.
 fn end_number(until: &Option<PassEnd>) -> i64
     ensures { result ≡ coding.end_number until.now }

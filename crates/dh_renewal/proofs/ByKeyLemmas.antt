@@ -1,12 +1,14 @@
 -- What looks by key say of the names for who has some grants.
-use Rattle.std.proofs.Common.{◌≡◌, ℕ, ◌+◌, ◌<◌, ◌≤◌, Bool, true, false, ◌&&◌, cond, List, [], ◌∷◌, length, get_or, drop, filter, find, map, Option, Some, None, codes, refl, sym, ap, subst, ◌∙◌}
-use Rattle.std.specs.Option.{option_map, option_and_then}
+use Rattle.std.proofs.Common.{◌≡◌, Bool, true, false, ◌&&◌, cond, List, [], ◌∷◌, filter, find, map, Option, Some, None, Result, refl, sym, ap, subst, ◌∙◌}
+use Rattle.std.specs.Option.{option_map}
 use Rattle.std.specs.FinMap.{get}
 use Rattle.std.specs.Str.{bytes_eq}
-use Rattle.std.proofs.lemmas.List.{drop_all, drop_more}
+use Rattle.sqlite_trees.specs.declared.store.Store.{Ghosts}
+use Rattle.sqlite.specs.Held.{Held}
+use Rattle.dh_rows.specs.Calls.{MakesNoCommit}
+use Rattle.dh_tables.specs.Going.{LooksAtRecords, NowShowsRecords, records}
+use Rattle.dh_world.specs.declared.refusal.Refusal.{Refusal}
 use Rattle.dh_versions.specs.declared.version.Version.{Version}
-use Rattle.dh_world.specs.Seen.{default_of}
-use Rattle.dh_world.specs.Visibility.{may_see}
 use Rattle.dh_world.specs.World.{Text, Project}
 use Rattle.dh_classes.specs.Classes.{versions_for}
 use Rattle.dh_aliases.specs.Names.{names_of}
@@ -14,44 +16,25 @@ use Rattle.dh_aliases.specs.Tops.{stable_version}
 use Rattle.dh_aliases.specs.declared.names.Names.{Names}
 use Rattle.dh_class_names.specs.ClassNames.{AreRowsOf, grants_of}
 use Rattle.dh_class_names.specs.Highest.{IsHighest, IsPublic, IsSeenWith}
-use Rattle.dh_class_names.specs.Rows.{is_granted, names_by, seen_under, version_under}
+use Rattle.dh_class_names.specs.Find.{FindsInTurn}
+use Rattle.dh_class_names.specs.Rows.{names_by, version_under}
 use Rattle.dh_class_names.proofs.HostLemmas.{rows_of_host}
-use Rattle.dh_class_names.proofs.LookupLemmas.{seen_of, seen_one}
 use Rattle.dh_class_names.proofs.NamingLemmas.{pass_are}
 use Rattle.dh_class_names.proofs.RowLemmas.{stable_is_public}
 use Rattle.dh_records.specs.Constraints.{AreSound}
 use Rattle.dh_records.specs.Lists.{Lists, world_of, is_held_by, is_pick_of, is_version, is_version_of}
 use Rattle.dh_records.specs.declared.records.GrantRow.{GrantRow}
-use Rattle.dh_records.specs.declared.records.DefaultRow.{DefaultRow}
 use Rattle.dh_records.specs.declared.records.VersionRow.{VersionRow}
-use Rattle.dh_renewal.specs.ByKey.{defaults_at, versions_at}
+use Rattle.dh_renewal.specs.ByKey.{defaults_at, finding_at, versions_at}
 use Rattle.dh_renewal.specs.Finding.{IsStable, IsStableKept, IsStableWith}
 use Rattle.dh_renewal.specs.Renewing.{IsOfGrants, OfBranch}
+use Rattle.dh_renewal.proofs.Together.{asks_then}
 
--- ---- the first default that stands for a version
-
-module _ (f : Text → Bool) where
-  pub neither : f (codes "latest") ≡ false → f (codes "stable") ≡ false → None ≡ default_of f []
-  neither one two = sym (λ i. cond (one i) (Some (codes "latest")) (cond (two i) (Some (codes "stable")) None))
-
-  module _ (picks : List DefaultRow) (i : ℕ) (x : DefaultRow) (within : i < length picks) (is : x ≡ get_or picks i x) where
-    abbrev names : List DefaultRow → List Text
-    names = map (λ d. d.name)
-
-    here : default_of f (names (drop i picks)) ≡ cond (f x.name) (Some x.name) (default_of f (names (drop (i + 1) picks)))
-    here = ap (λ ds. default_of f (names ds)) (drop_more picks i x within) ∙ ap (λ (d : DefaultRow). default_of f (names (d ∷ drop (i + 1) picks))) (sym is)
-
-    pub first_stands : (copy : Text) → copy ≡ x.name → f x.name ≡ true → default_of f (map (λ d. d.name) picks) ≡ default_of f (map (λ d. d.name) (drop i picks))
-        → Some copy ≡ default_of f (map (λ d. d.name) picks)
-    first_stands copy same stands passed = ap Some same ∙ sym (passed ∙ here ∙ ap (λ b. cond b (Some x.name) (default_of f (names (drop (i + 1) picks)))) stands)
-
-    pub first_passed : f x.name ≡ false → default_of f (map (λ d. d.name) picks) ≡ default_of f (map (λ d. d.name) (drop i picks))
-        → default_of f (map (λ d. d.name) picks) ≡ default_of f (map (λ d. d.name) (drop (i + 1) picks))
-    first_passed fails passed = passed ∙ here ∙ ap (λ b. cond b (Some x.name) (default_of f (names (drop (i + 1) picks)))) fails
-
-  pub all_passed : (picks : List DefaultRow) (i : ℕ) → length picks ≤ i → default_of f (map (λ d. d.name) picks) ≡ default_of f (map (λ d. d.name) (drop i picks))
-      → default_of f [] ≡ default_of f (map (λ d. d.name) picks)
-  all_passed picks i past passed = sym (passed ∙ ap (λ (ds : List DefaultRow). default_of f (map (λ d. d.name) ds)) (drop_all i picks past))
+-- versions were found behind a look
+pub found_after
+    : {S T : Type 0} (g : Ghosts S) (host : Text) (a b c : Held S) (r : Result T Refusal) → MakesNoCommit g a b → NowShowsRecords g a b (records g a)
+    → FindsInTurn (finding_at g host) b c r → LooksAtRecords g a c r
+found_after g host a b c r goes sees it = asks_then g a b c r goes sees (record { goes = it.leads; looks = it.keeps; err = it.err })
 
 -- ---- what stands in a part of a list
 
@@ -80,13 +63,6 @@ module _ (host : Text) (l : Lists) where
 
   pub under_slug : (slug : Text) (o : Option Version) → o ≡ option_map (λ r. r.version) (find (is_version host slug) l.versions) → o ≡ version_under (versions_at host l) slug
   under_slug slug o e = e ∙ ap (option_map (λ (r : VersionRow). r.version)) (found_here slug)
-
-  pub none_seen : (grants : List GrantRow) (slug : Text) → None ≡ find (is_version host slug) l.versions → None ≡ seen_under (versions_at host l) grants slug
-  none_seen grants slug e = seen_of (versions_at host l) grants slug None (e ∙ found_here slug)
-
-  pub row_seen : (grants : List GrantRow) (slug : Text) (r : VersionRow) → Some r ≡ find (is_version host slug) l.versions
-      → (b : Bool) → may_see r.version (is_granted grants slug) ≡ b → cond b (Some r.version) None ≡ seen_under (versions_at host l) grants slug
-  row_seen grants slug r e b is = seen_one (versions_at host l) grants slug r (e ∙ found_here slug) b is
 
   -- ---- of a sound project
 

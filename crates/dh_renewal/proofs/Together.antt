@@ -7,6 +7,7 @@ use Rattle.dh_records.specs.Lists.{Lists}
 use Rattle.dh_schema.specs.InTurn.{goes_anywhere, goes_none, goes_on}
 use Rattle.dh_tables.specs.Going.{LooksAtRecords, ChangesRecords, NowShowsRecords, records}
 use Rattle.dh_tables.proofs.Together.{goes_within_on}
+use Rattle.dh_renewal.specs.Looks.{looks_on}
 use Rattle.dh_world.specs.CheckResults.{IsFault}
 use Rattle.dh_world.specs.declared.refusal.Refusal.{Refusal}
 
@@ -32,22 +33,13 @@ module _ {S : Type 0} (g : Ghosts S) where
       }
       both (Err e) after = tt
 
-  -- two looks that were answered
-  pub looks_on
-      : (a b c : Held S) → NowShowsRecords g a b (records g a) → MakesNoCommit g b c → NowShowsRecords g b c (records g b) → NowShowsRecords g a c (records g a)
-  looks_on a b c sees then seen = record {
-    live = λ honest clean. seen.live (sees.live honest (then.lasts.clean clean)) clean;
-    now_is = λ honest. seen.now_is honest ∙ sees.now_is (then.lasts.was honest);
-    mode = λ honest. seen.mode honest ∙ sees.mode (then.lasts.was honest);
-  }
-
   -- and then one that may be refused
   pub asks_then
       : {T : Type 0} (a b c : Held S) (r : Result T Refusal) → MakesNoCommit g a b → NowShowsRecords g a b (records g a) → LooksAtRecords g b c r → LooksAtRecords g a c r
   asks_then a b c r goes sees it = record { goes = goes_on goes sees.live it.goes; looks = both r it.looks; err = it.err }
     where
       both : {T : Type 0} (r : Result T Refusal) → OnOk r (NowShowsRecords g b c (records g b)) → OnOk r (NowShowsRecords g a c (records g a))
-      both (Ok x) seen = looks_on a b c sees it.goes seen
+      both (Ok x) seen = looks_on g a b c sees it.goes seen
       both (Err e) none = tt
 
   -- two looks, and then what is made of them
@@ -61,7 +53,7 @@ module _ {S : Type 0} (g : Ghosts S) where
   }
     where
       both : {T : Type 0} (r : Result T Refusal) → OnOk r (NowShowsRecords g a c (records g a))
-      both (Ok x) = looks_on a b c sees then seen
+      both (Ok x) = looks_on g a b c sees then seen
       both (Err e) = tt
 
   -- a look that was answered, where the change leaves all as it is

@@ -1,4 +1,5 @@
 pub mod ByKey
+pub mod Looks
 pub mod Filling
 pub mod Finding
 pub mod Renewing

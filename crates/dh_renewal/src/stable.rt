@@ -2,12 +2,11 @@
 
 ghost use Rattle.dh_schema.specs.Calling.{AnswersBy};
 ghost use Rattle.dh_tables.specs.Going.{LooksAtRecords};
-ghost use Rattle.dh_class_names.specs.Highest.{IsHighest, IsPublic, IsSeenWith};
-ghost use Rattle.dh_renewal.specs.ByKey.{versions_at};
 ghost use Rattle.dh_renewal.specs.Finding.{IsStable, IsStableWith};
 
+use crate::by_key::ByKey;
 use crate::looks::{kept_alias, version_under};
-use dh_class_names::with_opened;
+use dh_class_names::highest_with;
 use dh_paths::HostName;
 use dh_records::AliasName;
 use dh_tables::{GrantRow, Tables};
@@ -31,27 +30,6 @@ pub fn stable_version<S: Alter>(
     version_under(tables, alloc, host, &slug)
 }
 
-/// The highest release that all callers see or the grants open, from the highest that all callers see.
-fn highest_with<S: Alter>(
-    tables: &mut Tables<S>,
-    alloc: Global,
-    host: &HostName,
-    grants: &[GrantRow],
-    public: Option<Version>,
-) -> Result<Option<Version>, Refusal>
-    ensures asks { LooksAtRecords S.Store tables.old tables.new result }
-    ensures value { AnswersBy S.Store tables.old tables.new result (λ l o.
-        IsHighest (IsPublic (versions_at host.now l)) public
-        → IsHighest (IsSeenWith (versions_at host.now l) grants.now) o) }
-{
-    let mut best = public;
-    for grant in grants {
-        let opened = version_under(tables, alloc, host, &grant.slug)?;
-        best = with_opened(alloc, best, opened)?;
-    }
-    Ok(best)
-}
-
 /// The version that `stable` stands for, to a caller who has these grants.
 pub fn stable_with<S: Alter>(
     tables: &mut Tables<S>,
@@ -64,5 +42,5 @@ pub fn stable_with<S: Alter>(
         (IsStableWith host.now grants.now) }
 {
     let public = stable_version(tables, alloc, host)?;
-    highest_with(tables, alloc, host, grants, public)
+    highest_with(&ByKey { host }, tables, alloc, grants, public)
 }

@@ -15,7 +15,7 @@ use dh_paths::{Lang, Slug, Split, Text, split};
 use dh_ports::{Fault, Found};
 use dh_redirects::Asked;
 use dh_seen::{Named, Page};
-use dh_wire::{Read, Reply, fault_reply};
+use dh_wire::{Read, Reply, host_not_found};
 use std::alloc::Global;
 
 /// Redirects to the file in the default version, where there is a default.
@@ -207,7 +207,7 @@ fn nothing_served<L: Lookup>(
     }
     match default_not_found(alloc, lookup)? {
         Some(reply) => Ok(reply),
-        None => Ok(fault_reply(alloc, 404, None)?),
+        None => Ok(host_not_found(alloc)?),
     }
 }
 
@@ -312,7 +312,7 @@ pub fn reply<L: Lookup>(alloc: Global, lookup: &mut L, read: &Read) -> Result<Re
         (λ content. spec.reply_to content read.now.path read.now.query) }
 {
     if !lookup.known()? {
-        return Ok(fault_reply(alloc, 404, None)?);
+        return Ok(host_not_found(alloc)?);
     }
     let asked = split(read.path.as_str());
     project_reply(alloc, lookup, &asked, read)

@@ -11,7 +11,7 @@ use crate::robots::robots_text;
 use dh_paths::{Lang, Text};
 use dh_ports::Fault;
 use dh_versions::Version;
-use dh_wire::{Reply, fault_reply, text_reply};
+use dh_wire::{Reply, host_not_found, text_reply};
 use std::alloc::Global;
 
 /// The languages, and the visible versions.
@@ -78,6 +78,6 @@ pub fn system<L: Lookup>(alloc: Global, lookup: &mut L, name: &str) -> Result<Re
     if name == "versions" {
         versions(alloc, lookup)
     } else {
-        Ok(fault_reply(alloc, 404, None)?)
+        Ok(host_not_found(alloc)?)
     }
 }

@@ -7,8 +7,8 @@ use Rattle.dh_ports.specs.declared.stop.Stop.{Stop}
 use Rattle.dh_ports.specs.declared.stop.Stop.TheVariants.{Read, TooManyTurns, Memory}
 use Rattle.dh_ports.specs.Ports.{CountsAtLeast}
 use Rattle.dh_ports.specs.Reading.{reader_failed, TookAtMost, AddsOneRead, AddsSome, most_lost}
-use Rattle.dh_requests.specs.declared.asked.Asked.TheVariants.{Command}
-use Rattle.dh_requests.specs.declared.asked.Posted.{Posted}
+use Rattle.dh_requests.specs.declared.wanted.Wanted.TheVariants.{Command}
+use Rattle.dh_requests.specs.declared.wanted.Posted.{Posted}
 use Rattle.dh_requests.specs.declared.head_end.HeadEnd.{HeadEnd}
 use Rattle.dh_requests.specs.declared.head_end.HeadEnd.TheVariants.{At, TooLarge, CutShort}
 use Rattle.dh_requests.specs.HeadEnd.{HeadSize, head_end_in, head_end_of, OpenHead, most_spent}

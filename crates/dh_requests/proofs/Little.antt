@@ -7,9 +7,9 @@ use Rattle.std.proofs.lemmas.Bool.Decides.{nat_tests}
 use Rattle.httparse.specs.Grammar.{RequestHead}
 use Rattle.dh_ports.specs.Reading.{TookAtMost}
 use Rattle.dh_bodies.specs.declared.post.Post.{Post}
-use Rattle.dh_requests.specs.declared.asked.Asked.{Asked}
-use Rattle.dh_requests.specs.declared.asked.Asked.TheVariants.{Whole, Command}
-use Rattle.dh_requests.specs.declared.asked.Posted.{Posted}
+use Rattle.dh_requests.specs.declared.wanted.Wanted.{Wanted}
+use Rattle.dh_requests.specs.declared.wanted.Wanted.TheVariants.{Whole, Command}
+use Rattle.dh_requests.specs.declared.wanted.Posted.{Posted}
 use Rattle.dh_requests.specs.declared.cause.Cause.{Cause}
 use Rattle.dh_requests.specs.declared.cause.Cause.TheVariants.{LongBody, Form}
 use Rattle.dh_requests.specs.declared.head_end.Scan.{Scan}
@@ -45,7 +45,7 @@ length_little (Some None) None = tt
 length_little (Some (Some coding)) lines = tt
 length_little None lines = tt
 
-abbrev IsLittle : Asked → Type 0
+abbrev IsLittle : Wanted → Type 0
 IsLittle (Whole request) = Unit {0}
 IsLittle (Command posted) = posted.length ≤ 4194304
 
@@ -53,15 +53,15 @@ posted_little : (post : Post) (host key : Option (List ℕ)) (r : Result ℕ Cau
 posted_little post host key (Ok n) h = h
 posted_little post host key (Err cause) h = tt
 
-found : {A : Type 0} (r : Result A Cause) (f : A → Result Asked Cause) → ((a : A) → IfOk (f a) IsLittle) → IfOk (where_found r f) IsLittle
+found : {A : Type 0} (r : Result A Cause) (f : A → Result Wanted Cause) → ((a : A) → IfOk (f a) IsLittle) → IfOk (where_found r f) IsLittle
 found (Ok a) f h = h a
 found (Err cause) f h = tt
 
-map_or : {A : Type 0} (o : Option A) (f : A → Asked) (d : Asked) → ((a : A) → IsLittle (f a)) → IsLittle d → IsLittle (option_map_or f o d)
+map_or : {A : Type 0} (o : Option A) (f : A → Wanted) (d : Wanted) → ((a : A) → IsLittle (f a)) → IsLittle d → IsLittle (option_map_or f o d)
 map_or None f d h k = k
 map_or (Some a) f d h k = h a
 
-or_refused : (head : Bool) (r : Result Asked Cause) → IfOk r IsLittle → IsLittle (asked_or_refused head r)
+or_refused : (head : Bool) (r : Result Wanted Cause) → IfOk r IsLittle → IsLittle (asked_or_refused head r)
 or_refused head (Ok asked) h = h
 or_refused head (Err cause) h = tt
 

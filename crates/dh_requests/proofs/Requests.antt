@@ -6,9 +6,9 @@ use Rattle.std.proofs.lemmas.List.{take-append-le, drop-append-le}
 use Rattle.httparse.specs.Grammar.{RequestHead}
 use Rattle.httparse.proofs.GrammarLemmas.{request_unique}
 use Rattle.dh_ports.specs.declared.stop.Stop.{Stop}
-use Rattle.dh_requests.specs.declared.asked.Asked.{Asked}
-use Rattle.dh_requests.specs.declared.asked.Asked.TheVariants.{Whole, Command}
-use Rattle.dh_requests.specs.declared.asked.Posted.{Posted}
+use Rattle.dh_requests.specs.declared.wanted.Wanted.{Wanted}
+use Rattle.dh_requests.specs.declared.wanted.Wanted.TheVariants.{Whole, Command}
+use Rattle.dh_requests.specs.declared.wanted.Posted.{Posted}
 use Rattle.dh_requests.specs.declared.request.Request.{Request}
 use Rattle.dh_requests.specs.declared.request.Request.TheVariants.{Refused}
 use Rattle.dh_requests.specs.declared.cause.Cause.TheVariants.{ShortBody}
@@ -21,12 +21,12 @@ use Rattle.dh_requests.specs.Takes.{AddsUpTo}
 use Rattle.dh_requests.specs.Request.{asked_by_head, asked_of, HeadAsksFor, posted_command, request_behind, IsRequestUpTo, IsRequest}
 
 -- the parts that were found ask for what the head does
-pub parse_request_head : (text : List ℕ) (found : Head) (r : Result Asked Stop) → IsReadAs text (Some found) → IfOk r (λ a. a ≡ asked_by_head (parts_found found)) → IfOk r (HeadAsksFor text)
+pub parse_request_head : (text : List ℕ) (found : Head) (r : Result Wanted Stop) → IsReadAs text (Some found) → IfOk r (λ a. a ≡ asked_by_head (parts_found found)) → IfOk r (HeadAsksFor text)
 parse_request_head text found (Err e) read h = tt
 parse_request_head text found (Ok a) read h = (Some read.0, read.1, h ∙ ap asked_by_head read.2)
 
 -- what the text of a head asks for, and what follows it, is a request
-pub request_text : (r : Result Request Stop) (left : Option (List ℕ)) (bytes text : List ℕ) (start : ℕ) (asked : Asked) → start ≤ length bytes → text ≡ take start bytes → HeadAsksFor text asked → IfOk r (λ q. IfSome left (λ more. q ≡ request_behind asked (drop start (bytes ++ more)))) → IfOk r (λ q. IfSome left (λ more. IsRequestUpTo (At start) (bytes ++ more) q))
+pub request_text : (r : Result Request Stop) (left : Option (List ℕ)) (bytes text : List ℕ) (start : ℕ) (asked : Wanted) → start ≤ length bytes → text ≡ take start bytes → HeadAsksFor text asked → IfOk r (λ q. IfSome left (λ more. q ≡ request_behind asked (drop start (bytes ++ more)))) → IfOk r (λ q. IfSome left (λ more. IsRequestUpTo (At start) (bytes ++ more) q))
 request_text (Err e) left bytes text start asked le same asks is = tt
 request_text (Ok q) None bytes text start asked le same asks is = tt
 request_text (Ok q) (Some more) bytes text start asked le same asks is =

@@ -1,8 +1,8 @@
 -- What of an input has to be read before its request is known.
 use Rattle.std.specs.Prelude.{◌≡◌, ◌⊎◌, ℕ, ◌+◌, ◌<◌, List, length, take, Option}
 use Rattle.dh_requests.specs.declared.head_end.HeadEnd.TheVariants.{At}
-use Rattle.dh_requests.specs.declared.asked.Posted.{Posted}
-use Rattle.dh_requests.specs.declared.asked.Asked.TheVariants.{Command}
+use Rattle.dh_requests.specs.declared.wanted.Posted.{Posted}
+use Rattle.dh_requests.specs.declared.wanted.Wanted.TheVariants.{Command}
 use Rattle.dh_requests.specs.HeadEnd.{head_end_of, OpenHead}
 use Rattle.dh_requests.specs.Request.{HeadAsksFor}
 use Rattle.std.specs.Io.KnownBytes.{Consumes}

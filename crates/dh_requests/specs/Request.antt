@@ -5,6 +5,7 @@ use Rattle.std.specs.Str.{bytes_eq, is_utf8}
 use Rattle.httparse.specs.Grammar.{RequestHead}
 use Rattle.dh_paths.specs.declared.target.Target.{Target}
 use Rattle.dh_paths.specs.Targets.{target_of, host_of}
+use Rattle.dh_wire.specs.Reads.{read_of}
 use Rattle.dh_wire.specs.declared.reply.Allow.{Allow}
 use Rattle.dh_wire.specs.declared.reply.Allow.TheVariants as allow
 use Rattle.dh_bodies.specs.Bodies.{body_change}
@@ -16,9 +17,9 @@ use Rattle.dh_requests.specs.declared.cause.Cause.{Cause}
 use Rattle.dh_requests.specs.declared.cause.Cause.TheVariants.{NoEnd, NoHost, TwoLines, ShortBody, Form, Method, LongHead}
 use Rattle.dh_requests.specs.declared.request.Request.{Request}
 use Rattle.dh_requests.specs.declared.request.Request.TheVariants.{Read, Apply, Refused}
-use Rattle.dh_requests.specs.declared.asked.Posted.{Posted}
-use Rattle.dh_requests.specs.declared.asked.Asked.{Asked}
-use Rattle.dh_requests.specs.declared.asked.Asked.TheVariants.{Whole, Command}
+use Rattle.dh_requests.specs.declared.wanted.Posted.{Posted}
+use Rattle.dh_requests.specs.declared.wanted.Wanted.{Wanted}
+use Rattle.dh_requests.specs.declared.wanted.Wanted.TheVariants.{Whole, Command}
 use Rattle.dh_requests.specs.HeadEnd.{head_end_of}
 use Rattle.dh_requests.specs.Head.{IsHeadOf, Parts, parts_of}
 use Rattle.dh_requests.specs.Causes.{where_found}
@@ -57,7 +58,7 @@ not_allowed allowed method = Refused (Method allowed) (is_head method)
 abbrev pub read_request_of : List ℕ → Target → Option (List ℕ) → Option (List ℕ) → Request
 read_request_of method target host pass =
     if bytes_eq method (codes "GET") || is_head method
-    then Read host pass (record { path = target.path; query = target.query }) (is_head method)
+    then Read host pass (read_of target) (is_head method)
     else not_allowed allow.Get method
 
 -- the bytes as a text, or the empty text where they are not UTF-8
@@ -71,7 +72,7 @@ key_text key = option_map_or text_of key []
 -- a command whose body has this length, or the refusal of its length; a host that no project can have
 -- is the empty text
 abbrev pub posted :
-    Post → Option (List ℕ) → Option (List ℕ) → Result ℕ Cause → Asked
+    Post → Option (List ℕ) → Option (List ℕ) → Result ℕ Cause → Wanted
 posted post host key (Ok count) =
     Command (record {
       host = unwrap_or host [];
@@ -82,7 +83,7 @@ posted post host key (Ok count) =
 posted post host key (Err cause) = Whole (Refused cause false)
 
 -- POST is a command; any other method is refused
-abbrev pub command_head : Post → Parts → Option (List ℕ) → Option (List ℕ) → Asked
+abbrev pub command_head : Post → Parts → Option (List ℕ) → Option (List ℕ) → Wanted
 command_head post parts host key =
     if bytes_eq parts.method (codes "POST")
     then posted post host key (body_length parts.coding parts.length)
@@ -92,14 +93,14 @@ command_head post parts host key =
 
 -- what is asked for at a target, by the host, the pass and the write key
 abbrev pub request_at :
-    Parts → Target → Option (List ℕ) → Option (List ℕ) → Option (List ℕ) → Asked
+    Parts → Target → Option (List ℕ) → Option (List ℕ) → Option (List ℕ) → Wanted
 request_at parts target host pass key =
     option_map_or (λ post. command_head post parts host key) (post_at target.path)
     (Whole (read_request_of parts.method target host pass))
 
 -- what a head asks for, where its target and its host are right, and it has no more than one line for the
 -- pass and one for the key; else the first thing that is wrong
-abbrev pub request_where_right : Parts → Result Asked Cause
+abbrev pub request_where_right : Parts → Result Wanted Cause
 request_where_right parts =
     where_found (ok_or (target_of parts.target) Form) (λ target.
     where_found (requested_host target.host parts.host) (λ host.
@@ -107,16 +108,16 @@ request_where_right parts =
     where_found (one_value parts.key) (λ key. Ok (request_at parts target host pass key)))))
 
 -- what was found, or the refusal; to HEAD, where it is the method
-abbrev pub asked_or_refused : Bool → Result Asked Cause → Asked
+abbrev pub asked_or_refused : Bool → Result Wanted Cause → Wanted
 asked_or_refused head (Ok asked) = asked
 asked_or_refused head (Err cause) = Whole (Refused cause head)
 
 -- what a head asks for; a head in which something is wrong is a bad request
-abbrev pub asked_by_head : Parts → Asked
+abbrev pub asked_by_head : Parts → Wanted
 asked_by_head parts = asked_or_refused (is_head parts.method) (request_where_right parts)
 
 -- what a head of the grammar asks for; a text that is no such head is a bad request
-abbrev pub asked_of : Option RequestHead → Asked
+abbrev pub asked_of : Option RequestHead → Wanted
 asked_of None = Whole (Refused Form false)
 asked_of (Some head) = asked_by_head (parts_of head)
 
@@ -130,7 +131,7 @@ posted_command posted body =
 
 -- the request of a head and of what follows it: a command has its body there, and bytes behind the body
 -- do not count; a body that is cut short is a bad request
-abbrev pub request_behind : Asked → List ℕ → Request
+abbrev pub request_behind : Wanted → List ℕ → Request
 request_behind (Whole request) rest = request
 request_behind (Command posted) rest =
     if nat_le posted.length (length rest) then posted_command posted (take posted.length rest)
@@ -139,7 +140,7 @@ request_behind (Command posted) rest =
 -- ---- the input
 
 -- the text, which is a head by its lines, asks for this
-abbrev pub HeadAsksFor : List ℕ → Asked → Type 0
+abbrev pub HeadAsksFor : List ℕ → Wanted → Type 0
 HeadAsksFor text asked = (head : Option RequestHead) × IsHeadOf text head × (asked ≡ asked_of head)
 
 -- the request of a text that is a head by its lines, and of what follows it

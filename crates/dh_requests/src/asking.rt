@@ -9,7 +9,6 @@ ghost use Rattle.dh_requests.specs.HeadEnd.{IsHeadText};
 ghost use Rattle.dh_requests.specs.Heard.{HasNoHead, HearsHead};
 ghost use Rattle.dh_requests.specs.Request as request;
 
-use crate::asked::{Asked, Posted};
 use crate::cause::Cause;
 use crate::fault::HeadFault;
 use crate::fields::Lines;
@@ -17,6 +16,7 @@ use crate::head::{Head, head_of};
 use crate::heard::{Heard, hear_head};
 use crate::length::body_length;
 use crate::request::{Request, is_head, not_allowed, read_request_of};
+use crate::wanted::{Posted, Wanted};
 use dh_bodies::Post;
 use dh_paths::{HostName, Target, Text, host_name, host_part};
 use dh_ports::Stop;
@@ -103,21 +103,21 @@ fn command_head(
     head: &Head<'_>,
     host: &Option<HostName>,
     key: Option<&[u8]>,
-) -> Result<Asked, AllocError>
+) -> Result<Wanted, AllocError>
     ensures { IfOk result (λ asked. asked
         ≡ request.command_head post (parts_found head.now) host.now (option_copied key.entry)) }
 {
     if head.method != b"POST".as_slice() {
-        return Ok(Asked::Whole(not_allowed(Allow::Post, head.method)));
+        return Ok(Wanted::Whole(not_allowed(Allow::Post, head.method)));
     }
     match body_length(head.coding, head.length) {
-        Ok(length) => Ok(Asked::Command(Posted {
+        Ok(length) => Ok(Wanted::Command(Posted {
             host: Text::copy_of(alloc, host_text(host))?,
             key: Text::copy_of(alloc, key_text(key))?,
             post,
             length,
         })),
-        Err(cause) => Ok(Asked::Whole(Request::Refused { cause, head: false })),
+        Err(cause) => Ok(Wanted::Whole(Request::Refused { cause, head: false })),
     }
 }
 
@@ -129,19 +129,19 @@ fn request_at(
     host: Option<HostName>,
     pass: Option<&[u8]>,
     key: Option<&[u8]>,
-) -> Result<Asked, AllocError>
+) -> Result<Wanted, AllocError>
     ensures { IfOk result (λ asked. asked
         ≡ request.request_at (parts_found head.now) target host
         (option_copied pass.entry) (option_copied key.entry)) }
 {
     match post_at(target.path.as_str()) {
         Some(post) => command_head(alloc, post, head, &host, key),
-        None => Ok(Asked::Whole(read_request_of(alloc, head.method, target, host, pass)?)),
+        None => Ok(Wanted::Whole(read_request_of(alloc, head.method, target, host, pass)?)),
     }
 }
 
 /// What a head asks for, or the first thing that is wrong with it.
-fn request_where_right(alloc: Global, head: &Head<'_>) -> Result<Asked, HeadFault>
+fn request_where_right(alloc: Global, head: &Head<'_>) -> Result<Wanted, HeadFault>
     ensures { FindsInHead (request.request_where_right (parts_found head.now)) result }
 {
     let target = Target::read(alloc, head.target)?;
@@ -151,13 +151,13 @@ fn request_where_right(alloc: Global, head: &Head<'_>) -> Result<Asked, HeadFaul
     Ok(request_at(alloc, head, target, host, pass, key)?)
 }
 
-fn request_of_head(alloc: Global, head: &Head<'_>) -> Result<Asked, Stop>
+fn request_of_head(alloc: Global, head: &Head<'_>) -> Result<Wanted, Stop>
     ensures asked { IfOk result (λ asked. asked ≡ request.asked_by_head (parts_found head.now)) }
     ensures err { IfErr result (λ stop. stop ≡ Stop.Memory) }
 {
     match request_where_right(alloc, head) {
         Ok(asked) => Ok(asked),
-        Err(HeadFault::Refused(cause)) => Ok(Asked::Whole(Request::Refused {
+        Err(HeadFault::Refused(cause)) => Ok(Wanted::Whole(Request::Refused {
             cause,
             head: is_head(head.method),
         })),
@@ -166,7 +166,7 @@ fn request_of_head(alloc: Global, head: &Head<'_>) -> Result<Asked, Stop>
 }
 
 /// What the text of a head asks for, of which nothing but its first line was heard.
-pub fn parse_request_head(alloc: Global, text: &[u8], heard: &mut Heard) -> Result<Asked, Stop>
+pub fn parse_request_head(alloc: Global, text: &[u8], heard: &mut Heard) -> Result<Wanted, Stop>
     requires head { IsHeadText text.now }
     requires unheard { HasNoHead heard.old }
     ensures asked { IfOk result (request.HeadAsksFor text.now) }
@@ -178,7 +178,7 @@ pub fn parse_request_head(alloc: Global, text: &[u8], heard: &mut Heard) -> Resu
             hear_head(alloc, heard, &head, text)?;
             request_of_head(alloc, &head)
         }
-        None => Ok(Asked::Whole(Request::Refused {
+        None => Ok(Wanted::Whole(Request::Refused {
             cause: Cause::Form,
             head: false,
         })),

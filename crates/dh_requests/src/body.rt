@@ -82,7 +82,7 @@ pub fn read_up_to<R: Source>(
         (FillsUpTo (length intake.old.bytes.items) count)
         (MOST_READS - length intake.old.bytes.items) (MOST_READS - intake.old.reads) }
 {
-    'pieces: while intake.bytes.len() < count {
+    while intake.bytes.len() < count {
         let missing = count - intake.bytes.len();
         if !read_piece(intake, source, missing)? {
             return Ok(false);

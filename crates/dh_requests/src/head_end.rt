@@ -116,7 +116,7 @@ pub fn read_head<R: Source>(intake: &mut Intake, source: &mut R) -> Result<HeadE
 {
     let mut scan = FIRST;
     let mut seen = 0;
-    'pieces: loop {
+    loop {
         if seen == MOST_HEAD_BYTES {
             return Ok(HeadEnd::TooLarge);
         }

@@ -1,7 +1,6 @@
 //! HTTP requests: how they are read, and what they ask for.
 #![tactic(auto)]
 
-pub mod asked;
 mod asking;
 mod body;
 pub mod cause;
@@ -14,6 +13,7 @@ mod laws;
 pub mod length;
 mod reading;
 pub mod request;
+pub mod wanted;
 
 pub use cause::Cause;
 pub use dh_ports::Stop;

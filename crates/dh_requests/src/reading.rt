@@ -3,7 +3,7 @@
 ghost use Rattle.std.specs.Prelude.{◌≡◌, ◌+◌, ◌-◌, ◌≤◌, ◌++◌, false, length, drop, IfOk, OnOk, IfErr, IfSome};
 ghost use Rattle.dh_ports.specs.Ports.{CountsUpTo};
 ghost use Rattle.dh_ports.specs.Reading.{TookAtMost};
-ghost use Rattle.dh_requests.specs.declared.asked.Asked.{Asked};
+ghost use Rattle.dh_requests.specs.declared.wanted.Wanted.{Wanted};
 ghost use Rattle.dh_requests.specs.declared.head_end.HeadEnd.TheVariants.{At};
 ghost use Rattle.dh_requests.specs.HeadEnd.{head_end_of, EndsHead, most_spent};
 ghost use Rattle.dh_requests.specs.Heard as hearing;
@@ -12,7 +12,6 @@ ghost use Rattle.dh_requests.specs.Request as request;
 ghost use Rattle.dh_requests.specs.Takes.{FillsUpTo, TakesNeeded};
 ghost use Rattle.dh_requests.specs.Needs.{IsNeeded, StaysNeeded};
 
-use crate::asked::{Asked, Posted};
 use crate::asking::parse_request_head;
 use crate::body::read_up_to;
 use crate::cause::Cause;
@@ -20,6 +19,7 @@ use crate::head_end::{HeadEnd, MOST_HEAD_BYTES, read_head};
 use crate::heard::{Heard, hear_cause, hear_count, hear_line};
 use crate::length::MOST_BODY_BYTES;
 use crate::request::Request;
+use crate::wanted::{Posted, Wanted};
 use dh_bodies::read_change;
 use dh_ports::{Intake, MOST_READS, READ_SIZE, Source, Stop};
 use dh_world::Command;
@@ -69,7 +69,7 @@ fn read_command<R: Source>(
     requires little { length intake.bytes.items ≤ MOST_HEAD_BYTES + READ_SIZE }
     requires small { posted.length ≤ MOST_BODY_BYTES }
     ensures request { IfOk result (λ r. IfSome (R.left source.old) (λ left.
-        r ≡ request.request_behind (Asked.Command posted)
+        r ≡ request.request_behind (Wanted.Command posted)
         (drop start (intake.bytes.items ++ left)))) }
     ensures unread { start + posted.length ≤ length intake.bytes.items
         → source.new ≡ source.old }
@@ -110,8 +110,8 @@ fn read_behind<R: Source>(
         intake.bytes.items heard.new) }
 {
     match parse_request_head(alloc, &intake.bytes[..start], heard)? {
-        Asked::Whole(request) => Ok(request),
-        Asked::Command(posted) => read_command(alloc, intake, source, start, posted, heard),
+        Wanted::Whole(request) => Ok(request),
+        Wanted::Command(posted) => read_command(alloc, intake, source, start, posted, heard),
     }
 }
 

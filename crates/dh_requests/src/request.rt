@@ -77,15 +77,10 @@ pub fn read_request_of(
         return Ok(not_allowed(Allow::Get, method));
     }
     let pass = copied(alloc, pass)?;
-    let Target {
-        host: _,
-        path,
-        query,
-    } = target;
     Ok(Request::Read {
         host,
         pass,
-        read: Read { path, query },
+        read: Read::of(target),
         head,
     })
 }

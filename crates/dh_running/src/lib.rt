@@ -7,4 +7,4 @@ mod serving;
 
 pub use clock::seconds;
 pub use orders::{do_order, run_lines};
-pub use serving::{Places, Served, bind_places, open_within, serve_rest, tell_waiting};
+pub use serving::{Places, Served, bind_places, open_within, print_waiting, serve_rest};

@@ -16,11 +16,11 @@ use dh_http::{Desk, Heard, Note, answer};
 use dh_lines::{Order, ProgramOrder};
 use dh_ports::{Sink, Source};
 use dh_script::{Report, ScriptFault, perform_single, run_script};
-use dh_telling::{Failure, Status, Streams, say, tell_refusal, tell_report};
+use dh_telling::{Failure, Status, Streams, print_refusal, print_report, say};
 use sqlite::Alter;
 use std::alloc::Global;
 
-fn status_told(refused: bool) -> Status
+fn status_of(refused: bool) -> Status
     ensures status { result ≡ single_status refused }
     ensures fault { is_failure_status result ≡ false }
 {
@@ -50,8 +50,8 @@ fn do_single_order<S: Alter, W: Sink, E: Sink>(
 {
     let printed = perform_single(alloc, desk, order, now)?;
     say(sink, printed.text.as_str())?;
-    tell_refusal(alloc, order, printed.reason, errors);
-    Ok(status_told(printed.refused))
+    print_refusal(alloc, order, printed.reason, errors);
+    Ok(status_of(printed.refused))
 }
 
 /// Runs a script, and then tells which of its lines were refused.
@@ -71,7 +71,7 @@ fn run_reported<S: Alter, R: Source, W: Sink, E: Sink>(
 {
     let mut report = Report::new(alloc);
     let ran = run_script(alloc, desk, source, sink, &mut report, now);
-    tell_report(alloc, errors, &report);
+    print_report(alloc, errors, &report);
     ran
 }
 

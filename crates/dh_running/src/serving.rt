@@ -65,7 +65,7 @@ pub struct Served<'a> {
 }
 
 /// Tells which file is served, unless memory is out.
-fn tell_served<E: Sink>(alloc: Global, file: &str, projects: i64, errors: &mut E)
+fn print_served<E: Sink>(alloc: Global, file: &str, projects: i64, errors: &mut E)
     ensures { TellsSome E.broken E.held errors.old errors.new }
 {
     let file = shown(file);
@@ -96,7 +96,7 @@ impl Places {
 }
 
 /// Tells which port is answered from now on, where one was bound.
-fn tell_port<W: Sink>(
+fn print_port<W: Sink>(
     alloc: Global,
     port: Option<TcpListener>,
     sink: &mut W,
@@ -117,7 +117,7 @@ fn tell_port<W: Sink>(
 }
 
 /// Tells that a file whose store has failed is opened again, and where its disk is full, unless memory is out.
-fn tell_again<E: Sink>(alloc: Global, file: &str, failed: Option<FileFault>, errors: &mut E)
+fn print_again<E: Sink>(alloc: Global, file: &str, failed: Option<FileFault>, errors: &mut E)
     ensures { TellsSome E.broken E.held errors.old errors.new }
 {
     let file = shown(file);
@@ -262,7 +262,7 @@ impl<'a> Control for Messages<'a> {
 }
 
 /// Tells the log that a server of a file begins, or why it ends.
-fn tell_server<L: Write>(
+fn log_server<L: Write>(
     rt: &HostRuntime,
     level: Level,
     outcome: &str,
@@ -305,7 +305,7 @@ fn serve_desk<S: Alter, N: Listen, C: FnMut() -> u64, L: Write>(
         file: name.as_str(),
         count: 0,
     };
-    tell_server(rt, Level::Info, "Begins", file, "", log);
+    log_server(rt, Level::Info, "Begins", file, "", log);
     let served = serve_on(
         rt.alloc(),
         desk,
@@ -317,10 +317,10 @@ fn serve_desk<S: Alter, N: Listen, C: FnMut() -> u64, L: Write>(
         log,
     );
     if desk.is_closed() {
-        tell_server(rt, Level::Error, "Ends", file, "Store", log);
+        log_server(rt, Level::Error, "Ends", file, "Store", log);
         return Some(count - served.asked);
     }
-    tell_server(rt, Level::Info, "Ends", file, "Count", log);
+    log_server(rt, Level::Info, "Ends", file, "Count", log);
     None
 }
 
@@ -363,8 +363,8 @@ fn serve_at<S: Alter, C: FnMut() -> u64, R: Source, W: Sink, E: Sink>(
     ensures file { served.new.file ≡ served.old.file }
     ensures tells { TellsSome E.broken E.held streams.old.errors streams.new.errors }
 {
-    let listener = tell_port(rt.alloc(), port, &mut streams.sink)?;
-    tell_served(
+    let listener = print_port(rt.alloc(), port, &mut streams.sink)?;
+    print_served(
         rt.alloc(),
         served.file,
         served.projects,
@@ -399,7 +399,7 @@ fn serve_at<S: Alter, C: FnMut() -> u64, R: Source, W: Sink, E: Sink>(
 }
 
 /// Tells that a file is served without a control socket, unless memory is out.
-fn tell_without_socket<E: Sink>(alloc: Global, file: &str, errors: &mut E)
+fn print_without_socket<E: Sink>(alloc: Global, file: &str, errors: &mut E)
     ensures { TellsSome E.broken E.held errors.old errors.new }
 {
     let file = shown(file);
@@ -421,7 +421,7 @@ fn open_socket<E: Sink>(
 {
     let socket = keep_socket(rt, file, made?)?;
     if socket.is_none() {
-        tell_without_socket(rt.alloc(), file, errors);
+        print_without_socket(rt.alloc(), file, errors);
     }
     Ok(socket)
 }
@@ -494,7 +494,7 @@ pub fn open_within(
 }
 
 /// Tells that a server waits for a file that another program has open, where it does, unless memory is out.
-pub fn tell_waiting<E: Sink>(alloc: Global, file: &str, seconds: u32, errors: &mut E)
+pub fn print_waiting<E: Sink>(alloc: Global, file: &str, seconds: u32, errors: &mut E)
     ensures { TellsSome E.broken E.held errors.old errors.new }
 {
     if seconds == 0 {
@@ -534,9 +534,9 @@ fn serve_again<N: Listen, C: FnMut() -> u64, L: Write, E: Sink>(
     ensures fails { IfErr result (λ failure. IsTrue (may_fail is_of_init failure)) }
     ensures tells { TellsSome E.broken E.held errors.old errors.new }
 {
-    tell_again(rt.alloc(), file, *failed, errors);
+    print_again(rt.alloc(), file, *failed, errors);
     let (mut desk, projects) = open_within(rt, file, REOPENING)?;
-    tell_served(rt.alloc(), file, projects, errors);
+    print_served(rt.alloc(), file, projects, errors);
     let left = serve_desk(rt, &mut desk, file, listening, clock, count, log);
     remove_at_end(rt, file, own, left);
     let closed = close_desk(desk);
@@ -570,7 +570,7 @@ fn serve_left<N: Listen, C: FnMut() -> u64, L: Write, E: Sink>(
 {
     let mut failed = failed;
     let mut left = count;
-    'openings: for _ in 0..count.saturating_add(1) {
+    for _ in 0..count.saturating_add(1) {
         let fewer = serve_again(
             rt,
             file,

@@ -23,7 +23,7 @@ ghost use Rattle.dh_requests.specs.Needs.{IsNeeded};
 ghost use Rattle.dh_requests.specs.Takes.{TookAtLeast};
 ghost use Rattle.dh_sample.specs.Answer.{AnswersSample, engine_told, WritesTold, reader_failed, writer_failed};
 
-fn told(answered: Result<Done, EngineFault>) -> Result<Done, SampleFault>
+fn as_sample(answered: Result<Done, EngineFault>) -> Result<Done, SampleFault>
     ensures told { engine_told result ≡ Some answered }
     ensures many { IsErrOf result (SampleFault.Engine EngineFault.TooManyTurns)
         → IsErrOf answered EngineFault.TooManyTurns }
@@ -65,9 +65,9 @@ pub fn answer_sample<R: Source, W: Sink>(
         Ok(mut desk) => {
             let mut heard = Heard::new(alloc);
             let mut note = Note::nothing();
-            told(answer(alloc, &mut desk, source, sink, now, &mut heard, &mut note))
+            as_sample(answer(alloc, &mut desk, source, sink, now, &mut heard, &mut note))
         }
-        Err(Refusal::OutOfMemory) => told(answer_unavailable(sink, false)),
+        Err(Refusal::OutOfMemory) => as_sample(answer_unavailable(sink, false)),
         Err(_) => Err(SampleFault::Store),
     }
 }

@@ -31,13 +31,13 @@ module _ (before after : World) (text : Text) (reason : Option Reason) where
   performs moment (File o) it = (true, (it.0, (it.1.0, refl)))
   performs moment (Program o) it = (true, (it.0, (it.1.0, refl)))
 
-  told_list : (listed : Result (Option Text) Fault) → ExplainsList listed text reason → (refused : Bool) × TellsList listed text refused
-  told_list (Ok (Some found)) it = (false, (it.0, refl))
-  told_list (Ok None) it = (true, (it.0, refl))
-  told_list (Err fault) it = (true, (it.0, refl))
+  printed_list : (listed : Result (Option Text) Fault) → ExplainsList listed text reason → (refused : Bool) × TellsList listed text refused
+  printed_list (Ok (Some found)) it = (false, (it.0, refl))
+  printed_list (Ok None) it = (true, (it.0, refl))
+  printed_list (Err fault) it = (true, (it.0, refl))
 
   lists : (moment : ℕ) (word : ListWord) → ListsFor moment before word text reason → (refused : Bool) × ListsAt moment before word text refused
-  lists moment word it = let its = told_list it.0 it.2 in (its.0, (it.0, it.1, its.1))
+  lists moment word it = let its = printed_list it.0 it.2 in (its.0, (it.0, it.1, its.1))
 
   pub singly : (moment : ℕ) (o : Order) → PerformsSingleFor moment before o after text reason → (refused : Bool) × PerformsSingle moment before o after text refused
   singly moment (Desk (desk.List word)) it = let its = lists moment word it.1 in (its.0, (it.0, its.1))

@@ -4,6 +4,8 @@ use Rattle.std.proofs.Common.{Bool, sym, subst, true}
 use Rattle.std.proofs.lemmas.Result.{IfOk-weaker}
 use Rattle.dh_paths.specs.declared.target.Target.{Target}
 use Rattle.dh_reply.specs.Replies.{reply_to}
+use Rattle.dh_wire.specs.Reads.{read_of}
+use Rattle.dh_wire.specs.declared.reply.Read.{Read}
 use Rattle.dh_wire.specs.declared.reply.Reply.{Reply}
 use Rattle.dh_ports.specs.declared.fault.Fault.{Fault}
 use Rattle.dh_ports.specs.declared.fault.Fault.TheVariants.{Store, Memory}
@@ -31,22 +33,24 @@ use Rattle.dh_lines.specs.declared.lines.DeskOrder.TheVariants as desk
 use Rattle.dh_script.specs.Script.{outcome_of, outcome_of_read, TellsOutcome, PerformsOrder, GetsAt, DoesOver, MayDoLine, MayDoOrder, MayDoSingle, ListsAt, TellsList}
 
 -- what is told of a read's outcome, whose reply is the definition's
-pub got : {P E : Type 0} (text_in : P → Text) (refused_in : P → Bool) (w : World) (named host : Text) (shown pass : Option Text) (moment : ℕ) (t : Target) (reply : Result Reply Fault) (outcome : Outcome) (result : Result P E)
-    → IfOk reply (λ r. r ≡ reply_to (seen w (host_named named) (caller_named shown moment)) t.path t.query)
-    → named ≡ host → shown ≡ pass → outcome ≡ outcome_of_read reply → IfOk result (λ p. TellsOutcome outcome (text_in p) (refused_in p))
+pub got : {P E : Type 0} (text_in : P → Text) (refused_in : P → Bool) (w : World) (named host : Text) (shown pass : Option Text) (moment : ℕ) (t : Target) (read : Read) (reply : Result Reply Fault) (outcome : Outcome) (result : Result P E)
+    → IfOk reply (λ r. r ≡ reply_to (seen w (host_named named) (caller_named shown moment)) read.path read.query)
+    → read ≡ read_of t → named ≡ host → shown ≡ pass → outcome ≡ outcome_of_read reply → IfOk result (λ p. TellsOutcome outcome (text_in p) (refused_in p))
     → IfOk result (λ p. GetsAt w host pass moment (Some t) (text_in p) (refused_in p))
-got text_in refused_in w named host shown pass moment t reply outcome result value same_host same_pass same told =
-    let by_host = subst (λ (h : Text). IfOk reply (λ r. r ≡ reply_to (seen w (host_named h) (caller_named shown moment)) t.path t.query)) same_host value in
+got text_in refused_in w named host shown pass moment t read reply outcome result value same_read same_host same_pass same told =
+    let by_read = subst (λ (q : Read). IfOk reply (λ r. r ≡ reply_to (seen w (host_named named) (caller_named shown moment)) q.path q.query)) same_read value in
+    let by_host = subst (λ (h : Text). IfOk reply (λ r. r ≡ reply_to (seen w (host_named h) (caller_named shown moment)) t.path t.query)) same_host by_read in
     let by_pass = subst (λ (p : Option Text). IfOk reply (λ r. r ≡ reply_to (seen w (host_named host) (caller_named p moment)) t.path t.query)) same_pass by_host in
     IfOk-weaker result _ _ (λ p is. (reply, by_pass, subst (λ (o : Outcome). TellsOutcome o (text_in p) (refused_in p)) same is)) told
 
 -- the same with its reason
-pub got_for : {P E : Type 0} (text_in : P → Text) (reason_in : P → Option Reason) (w : World) (named host : Text) (shown pass : Option Text) (moment : ℕ) (t : Target) (reply : Result Reply Fault) (outcome : Outcome) (result : Result P E)
-    → IfOk reply (λ r. r ≡ reply_to (seen w (host_named named) (caller_named shown moment)) t.path t.query)
-    → named ≡ host → shown ≡ pass → outcome ≡ outcome_of_read reply → IfOk result (λ p. ExplainsOutcome outcome (text_in p) (reason_in p))
+pub got_for : {P E : Type 0} (text_in : P → Text) (reason_in : P → Option Reason) (w : World) (named host : Text) (shown pass : Option Text) (moment : ℕ) (t : Target) (read : Read) (reply : Result Reply Fault) (outcome : Outcome) (result : Result P E)
+    → IfOk reply (λ r. r ≡ reply_to (seen w (host_named named) (caller_named shown moment)) read.path read.query)
+    → read ≡ read_of t → named ≡ host → shown ≡ pass → outcome ≡ outcome_of_read reply → IfOk result (λ p. ExplainsOutcome outcome (text_in p) (reason_in p))
     → IfOk result (λ p. GetsFor w host pass moment (Some t) (text_in p) (reason_in p))
-got_for text_in reason_in w named host shown pass moment t reply outcome result value same_host same_pass same told =
-    let by_host = subst (λ (h : Text). IfOk reply (λ r. r ≡ reply_to (seen w (host_named h) (caller_named shown moment)) t.path t.query)) same_host value in
+got_for text_in reason_in w named host shown pass moment t read reply outcome result value same_read same_host same_pass same told =
+    let by_read = subst (λ (q : Read). IfOk reply (λ r. r ≡ reply_to (seen w (host_named named) (caller_named shown moment)) q.path q.query)) same_read value in
+    let by_host = subst (λ (h : Text). IfOk reply (λ r. r ≡ reply_to (seen w (host_named h) (caller_named shown moment)) t.path t.query)) same_host by_read in
     let by_pass = subst (λ (p : Option Text). IfOk reply (λ r. r ≡ reply_to (seen w (host_named host) (caller_named p moment)) t.path t.query)) same_pass by_host in
     IfOk-weaker result _ _ (λ p is. (reply, by_pass, subst (λ (o : Outcome). ExplainsOutcome o (text_in p) (reason_in p)) same is)) told
 

@@ -6,7 +6,7 @@ ghost use Rattle.dh_script.specs.Explaining.{ExplainsList, ListsFor};
 ghost use Rattle.dh_script.specs.Reasons.{BlamesStore, ExplainsRefusal, reason_of_list};
 ghost use Rattle.dh_script.specs.Script.{ListsAt, TellsList};
 
-use crate::orders::{Printed, told};
+use crate::orders::{Printed, printed_outcome};
 use dh_desk::Desk;
 use dh_listings::ListWord;
 use dh_paths::Text;
@@ -29,7 +29,7 @@ fn listed(alloc: Global, text: &Text) -> Result<Printed, AllocError>
 }
 
 /// What is printed for a list, or for its failure.
-fn told_list(alloc: Global, answer: &Found<Text>) -> Result<Printed, AllocError>
+fn printed_list(alloc: Global, answer: &Found<Text>) -> Result<Printed, AllocError>
     ensures tells { IfOk result (λ p. TellsList answer.now (string_bytes p.text) p.refused) }
     ensures why { IfOk result (λ p. ExplainsList answer.now (string_bytes p.text) p.reason) }
     ensures explains { IfOk result (λ p. ExplainsRefusal p.reason (string_bytes p.text) p.refused) }
@@ -37,8 +37,8 @@ fn told_list(alloc: Global, answer: &Found<Text>) -> Result<Printed, AllocError>
 {
     match answer {
         Ok(Some(text)) => listed(alloc, text),
-        Ok(None) => told(alloc, &Outcome::Refused(Refusal::NoProject)),
-        Err(fault) => told(alloc, &Outcome::Failed(*fault)),
+        Ok(None) => printed_outcome(alloc, &Outcome::Refused(Refusal::NoProject)),
+        Err(fault) => printed_outcome(alloc, &Outcome::Failed(*fault)),
     }
 }
 
@@ -59,5 +59,5 @@ pub fn list<S: Alter>(
     ensures told { IfOk result (λ p. BlamesStore S.Store desk.old desk.new p.reason) }
 {
     let answer = desk.list(alloc, word, now);
-    told_list(alloc, &answer)
+    printed_list(alloc, &answer)
 }

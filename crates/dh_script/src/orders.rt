@@ -34,7 +34,7 @@ pub struct Printed {
 }
 
 /// What is printed for an outcome.
-pub(crate) fn told(alloc: Global, outcome: &Outcome) -> Result<Printed, AllocError>
+pub(crate) fn printed_outcome(alloc: Global, outcome: &Outcome) -> Result<Printed, AllocError>
     ensures tells { IfOk result (λ p. TellsOutcome outcome.now (string_bytes p.text) p.refused) }
     ensures why { IfOk result (λ p. ExplainsOutcome outcome.now (string_bytes p.text) p.reason) }
     ensures explains { IfOk result (λ p. ExplainsRefusal p.reason (string_bytes p.text) p.refused) }
@@ -90,14 +90,9 @@ fn do_read<S: Alter>(
     ensures explains { IfOk result (λ p. ExplainsRefusal p.reason (string_bytes p.text) p.refused) }
     ensures told { IfOk result (λ p. BlamesStore S.Store desk.old desk.new p.reason) }
 {
-    let Target {
-        host: _,
-        path,
-        query,
-    } = target;
-    let asked = Read { path, query };
+    let asked = Read::of(target);
     let outcome = read_out(desk.read(alloc, host.as_str(), pass_text(pass), &asked, moment));
-    told(alloc, &outcome)
+    printed_outcome(alloc, &outcome)
 }
 
 fn do_get<S: Alter>(
@@ -157,7 +152,7 @@ pub fn perform<S: Alter>(
 {
     match order {
         Order::Desk(DeskOrder::Act(command)) => {
-            told(alloc, &commanded(desk.apply(alloc, command)))
+            printed_outcome(alloc, &commanded(desk.apply(alloc, command)))
         }
         Order::Desk(
             DeskOrder::Get {

@@ -28,7 +28,7 @@ pub fn read_script<R: Source>(
         → CountsAtLeast (R.fills source.old) (R.fills source.new) MOST_READS }
 {
     let mut intake = Intake::new(alloc);
-    'pieces: loop {
+    loop {
         if !intake.more(source)? {
             return Ok(intake.into_bytes());
         }

@@ -140,7 +140,7 @@ impl Reason {
             Reason::Failed(Fault::Store) => "the store failed, and the read has no reply",
             Reason::Failed(Fault::Memory) => "memory is out, and the read has no reply",
             Reason::BadTarget => {
-                "the target is none: a path in ASCII that begins with '/', perhaps behind http:// and a host, without '#'; what it decodes to is UTF-8 without control bytes"
+                "not a target: a path in ASCII that begins with '/', perhaps behind http:// and a host, without '#'; what it decodes to is UTF-8 without control bytes"
             }
             Reason::Usage => {
                 "it is no command and no read, or names a file; 'docs_host help NAME' tells the words of each"
@@ -166,7 +166,7 @@ fn refusal_sentence(refusal: Refusal) -> &'static str {
         Refusal::ProjectTaken => "the host has a project already",
         Refusal::WrongKey => "the write key is not the project's",
         Refusal::LangTaken => "the project has the language already",
-        Refusal::NoLang => "the project has not the language; add-lang adds it",
+        Refusal::NoLang => "the project does not have the language; add-lang adds it",
         Refusal::NoVersion => "the project has no such version; a push makes one",
         Refusal::SlugTaken => "another branch or tag has the same name in addresses",
         Refusal::Inactive => "the version is inactive; activate makes it active",
@@ -177,7 +177,7 @@ fn refusal_sentence(refusal: Refusal) -> &'static str {
             "the list is full: a project has at most 30 languages, 1,000 passes, 100 redirects and 50 rules"
         }
         Refusal::PassTaken => "the project has the pass already",
-        Refusal::NoPass => "the project has not the pass; add-pass adds it",
+        Refusal::NoPass => "the project does not have the pass; add-pass adds it",
         Refusal::PatternRefused(_) => {
             "the pattern of a rule is too large to run; drop-rule takes the rule away"
         }
@@ -192,29 +192,27 @@ fn refusal_sentence(refusal: Refusal) -> &'static str {
 fn text_sentence(refusal: Refusal) -> &'static str {
     match refusal {
         Refusal::BadHost => {
-            "the host is none: 1 to 253 of a-z, 0-9, '.' and '-', the first and last a letter or digit"
+            "not a host: 1 to 253 of a-z, 0-9, '.' and '-', the first and last a letter or digit"
         }
         Refusal::BadLang => {
-            "the language is none: 2 to 16 of a-z, 0-9 and '-', the first a letter, the last no '-', and not 'page'"
+            "not a language: 2 to 16 of a-z, 0-9 and '-', the first a letter, the last no '-', and not 'page'"
         }
         Refusal::BadRef => {
-            "the branch or tag is none (1 to 255 bytes, no control byte), or the version is none (1 to 128 of a-z, 0-9, '.', '_' and '-', the first a letter or digit)"
+            "not a branch or tag (1 to 255 bytes, no control byte), or not a version (1 to 128 of a-z, 0-9, '.', '_' and '-', the first a letter or digit)"
         }
         Refusal::BadPath => {
-            "the page's path is none: 1 to 512 bytes, no control byte, no part between slashes empty, '.' or '..'"
+            "not the path of a page: 1 to 512 bytes, no control byte, no part between slashes empty, '.' or '..'"
         }
         Refusal::BadPage => {
-            "a page's media type (1 to 100 visible characters) or size (at most 1,048,576 bytes) is none, two pages have one path, or there are more than 256"
+            "a page has a wrong media type (1 to 100 visible characters) or size (at most 1,048,576 bytes), two pages have one path, or there are more than 256"
         }
         Refusal::BadPattern => {
             "the expression of the rule cannot be read, is too large, or has more than 200 bytes"
         }
         Refusal::BadRedirect(number) => redirect_sentence(number),
-        Refusal::BadKey => {
-            "the retry key is none: 1 to 64 of A-Z, a-z, 0-9, '-', '.', '_' and '~'"
-        }
+        Refusal::BadKey => { "not a retry key: 1 to 64 of A-Z, a-z, 0-9, '-', '.', '_' and '~'" }
         Refusal::BadUntil => "the end of a pass is above 9,223,372,036,854,775,807",
-        _ => "a pass or write key is none: 1 to 64 of A-Z, a-z, 0-9, '-', '.', '_' and '~'",
+        _ => "not a pass or a write key: 1 to 64 of A-Z, a-z, 0-9, '-', '.', '_' and '~'",
     }
 }
 
@@ -222,11 +220,11 @@ fn text_sentence(refusal: Refusal) -> &'static str {
 fn redirect_sentence(number: u8) -> &'static str {
     match number {
         1 => {
-            "FROM of the redirect is none: a path that begins with '/', of at most 512 bytes, no control byte"
+            "not a FROM of a redirect: a path that begins with '/', of at most 512 bytes, no control byte"
         }
         2 => "FROM of the redirect has a '*' before its end",
         3 => {
-            "TO of the redirect is none: a path, or http:// or https:// with a host, of at most 512 bytes, no control byte"
+            "not a TO of a redirect: a path, or http:// or https:// with a host, of at most 512 bytes, no control byte"
         }
         4 => "TO of the redirect has ':splat', and FROM has no '*' at its end to fill it",
         5 => "the status of the redirect is neither 301 nor 302",

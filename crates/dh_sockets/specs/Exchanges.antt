@@ -3,7 +3,7 @@ use Rattle.std.specs.Prelude.{◌≡◌, ⊤, ℕ, Bool, true, false, List, [], 
 use Rattle.std.specs.Io.KnownBytes.{Appends}
 use Rattle.dh_ports.specs.Ports.{PutsFirst}
 use Rattle.dh_world.specs.World.{Text}
-use Rattle.dh_sockets.specs.declared.sending.Answer.{Answer}
+use Rattle.dh_sockets.specs.declared.sending.ServerAnswer.{ServerAnswer}
 use Rattle.dh_sockets.specs.declared.sending.Silence.{Silence}
 
 -- all of a message went out; or the sink failed, and a front of the message went out
@@ -17,11 +17,11 @@ pub record Exchange : Type 0 where
   pub message : Text
   pub answer : Option (Text × Bool)
 
-abbrev pub answer_back : Result Answer Silence → Option (Text × Bool)
+abbrev pub answer_back : Result ServerAnswer Silence → Option (Text × Bool)
 answer_back (Ok answer) = Some (answer.bytes.items, answer.is_whole)
 answer_back (Err silence) = None
 
-abbrev pub exchange_of : Text → Text → Result Answer Silence → Exchange
+abbrev pub exchange_of : Text → Text → Result ServerAnswer Silence → Exchange
 exchange_of file message result =
     record { file = file; message = message; answer = answer_back result }
 

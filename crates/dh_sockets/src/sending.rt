@@ -14,7 +14,7 @@ const ANSWER_SIZE: usize = 16_384;
 
 /// What a server answered.
 #[derive(Drop)]
-pub struct Answer {
+pub struct ServerAnswer {
     pub bytes: Vec<u8>,
     /// Whether the bytes came to their end.
     pub is_whole: bool,
@@ -44,7 +44,7 @@ pub trait Ask {
         ensures { IfSome result (λ name. names file.now (string_bytes name)) };
 
     /// Sends a message to the server that has a file, and gives its answer.
-    fn ask(&mut self, alloc: Global, file: &str, message: &[u8]) -> Result<Answer, Silence>
+    fn ask(&mut self, alloc: Global, file: &str, message: &[u8]) -> Result<ServerAnswer, Silence>
         ensures { OneMore (sent self.old) (sent self.new)
             (exchange_of file.now message.now result) };
 }
@@ -56,7 +56,7 @@ fn read_answer<R: Source>(source: &mut R, answer: &mut Vec<u8>) -> bool
         (λ input. answer.new.items ≡ answer.old.items ++ input) }
 {
     let mut room = [0u8; ANSWER_SIZE];
-    'pieces: for _ in 0..u64::MAX {
+    for _ in 0..u64::MAX {
         match source.fill(&mut room) {
             Ok(0) => return true,
             Ok(count) => {
@@ -78,7 +78,7 @@ fn exchange<W: Sink, R: Source, F: FnOnce()>(
     sink: &mut W,
     end: F,
     source: &mut R,
-) -> Answer
+) -> ServerAnswer
     requires writer { W.broken sink.old ≡ false }
     requires reader { R.broken source.old ≡ false }
     requires callable { F.IsAlwaysCallable end }
@@ -90,7 +90,7 @@ fn exchange<W: Sink, R: Source, F: FnOnce()>(
     end();
     let mut bytes = Vec::new(alloc);
     let is_whole = read_answer(source, &mut bytes);
-    Answer { bytes, is_whole }
+    ServerAnswer { bytes, is_whole }
 }
 
 /// Asks servers through the control sockets of their files.
@@ -108,7 +108,7 @@ impl<'a> Ask for Sockets<'a> {
         name_of(self.rt, alloc, file).ok()
     }
 
-    fn ask(&mut self, alloc: Global, file: &str, message: &[u8]) -> Result<Answer, Silence> {
+    fn ask(&mut self, alloc: Global, file: &str, message: &[u8]) -> Result<ServerAnswer, Silence> {
         let stream = connect_socket(self.rt, file)?;
         Ok(exchange(
             alloc,

@@ -9,7 +9,7 @@ use Rattle.sqlite_schema.specs.declared.schema.Schema.{Schema}
 use Rattle.sqlite_tied.specs.Compute.{everything}
 use Rattle.sqlite.specs.State.{State}
 use Rattle.dh_rows.specs.Keyed.{IsFreeKey, flag}
-use Rattle.dh_rows.proofs.Read.{delete_of, delete_above_of, select_of, parameters_in, insert_of}
+use Rattle.dh_rows.proofs.Read.{insert_of}
 use Rattle.dh_rows.proofs.Equal.{tied_is, alike_text, alike_int, equal_text as same_text, equal_int as same_int}
 use Rattle.dh_rows.proofs.Upsert.{IsUpsert, puts, IsKeyOf, Fits}
 use Rattle.dh_records.specs.declared.records.ProjectRow.{ProjectRow}
@@ -30,7 +30,7 @@ use Rattle.dh_world.specs.World.{is_upload}
 use Rattle.dh_records.specs.Typed.{IsProject, IsLanguage, IsVersion, IsPage, IsUsed, IsPick, IsPass, IsHeld, IsRule, IsRedirect, IsAlias, IsRoute}
 use Rattle.dh_records.specs.Codings.{projects, langs, versions, pages, used, picks, passes, held, rules, redirects, aliases, routes, alias_number}
 use Rattle.dh_records.specs.Changes as change
-use Rattle.dh_schema.specs.Tables.{HoldsTables, lists_of, project_table, lang_table, version_table, page_table, used_table, pick_table, pass_table, holds_table, rule_table, redirect_table, alias_table, route_table}
+use Rattle.dh_schema.specs.Tables.{HoldsTables, lists_of, version_table, page_table, pick_table, rule_table, redirect_table, alias_table, route_table}
 use Rattle.dh_records.specs.Lists.{is_project, is_lang_of, is_version_of, is_version, is_page_of, is_page_in, is_page, is_used, same_op, is_pick_of, is_pass_of, is_pass, is_held, is_held_by, is_held_on, is_rule_of, is_rule_behind, is_redirect_of, is_redirect_behind, is_alias_of, is_alias_at, same_alias, is_route_of, is_route_in}
 use Rattle.dh_tables.proofs.Matching.{equal_text, above_place, equal_alias, equal_op, equal_place}
 use Rattle.dh_tables.specs.Listing.{is_redirect_at}
@@ -39,135 +39,57 @@ use Rattle.dh_tables.specs.Meanings.{AltersLists, AsksFor}
 use Rattle.dh_tables.proofs.OneTable.{asks, asks_shown, deletes, deletes_above, inserts, upserts}
 use Rattle.dh_tables.proofs.OurTables.{of_projects, of_langs, of_versions, of_pages, of_used, of_picks, of_passes, of_held, of_rules, of_redirects, of_aliases, of_routes}
 
-abbrev pub project_text : List ℕ
-project_text = codes "SELECT host, main, branch, wkey, private FROM project WHERE host = ?1 ORDER BY host"
-
-project_is : (select_of project_table project_text ≡ Some (0 ∷ 1 ∷ 2 ∷ 3 ∷ 4 ∷ [], (0, 0) ∷ [], 0 ∷ [])) × (parameters_in project_text ≡ Some 1)
+pub project_asked : (s : State) (host : List ℕ) → AsksFor projects.encode IsProject (λ l. l.projects) (is_project host) s (codes "SELECT host, main, branch, wkey, private FROM project WHERE host = ?1 ORDER BY host") (Text host ∷ [])
 unfolding everything
-project_is = (refl, refl)
+project_asked s host = asks of_projects s _ _ _ _ _ (refl, refl) refl (is_project host) (λ n x. rw (equal_text x.host host) (one (bytes_eq x.host host))) (λ tree n x. refl) (λ x y. refl)
 
-pub project_asked : (s : State) (host : List ℕ) → AsksFor projects.encode IsProject (λ l. l.projects) (is_project host) s project_text (Text host ∷ [])
-project_asked s host = asks of_projects s project_text _ _ _ _ project_is refl (is_project host) (λ n x. rw (equal_text x.host host) (one (bytes_eq x.host host))) (λ tree n x. refl) (λ x y. refl)
-
-abbrev pub langs_text : List ℕ
-langs_text = codes "SELECT host, lang, place FROM lang WHERE host = ?1 ORDER BY host, place"
-
-langs_is : (select_of lang_table langs_text ≡ Some (0 ∷ 1 ∷ 2 ∷ [], (0, 0) ∷ [], 0 ∷ 2 ∷ [])) × (parameters_in langs_text ≡ Some 1)
+pub langs_asked : (s : State) (host : List ℕ) → AsksFor langs.encode IsLanguage (λ l. l.langs) (is_lang_of host) s (codes "SELECT host, lang, place FROM lang WHERE host = ?1 ORDER BY host, place") (Text host ∷ [])
 unfolding everything
-langs_is = (refl, refl)
+langs_asked s host = asks of_langs s _ _ _ _ _ (refl, refl) refl (is_lang_of host) (λ n x. rw (equal_text x.host host) (one (bytes_eq x.host host))) (λ tree n x. refl) (λ x y. refl)
 
-pub langs_asked : (s : State) (host : List ℕ) → AsksFor langs.encode IsLanguage (λ l. l.langs) (is_lang_of host) s langs_text (Text host ∷ [])
-langs_asked s host = asks of_langs s langs_text _ _ _ _ langs_is refl (is_lang_of host) (λ n x. rw (equal_text x.host host) (one (bytes_eq x.host host))) (λ tree n x. refl) (λ x y. refl)
-
-abbrev pub version_text : List ℕ
-version_text = codes "SELECT host, slug, name, kind, active, hidden, private FROM version WHERE host = ?1 AND slug = ?2 ORDER BY host, slug"
-
-version_is : (select_of version_table version_text ≡ Some (0 ∷ 1 ∷ 2 ∷ 3 ∷ 4 ∷ 5 ∷ 6 ∷ [], (0, 0) ∷ (1, 1) ∷ [], 0 ∷ 1 ∷ [])) × (parameters_in version_text ≡ Some 2)
+pub version_asked : (s : State) (host slug : List ℕ) → AsksFor versions.encode IsVersion (λ l. l.versions) (is_version host slug) s (codes "SELECT host, slug, name, kind, active, hidden, private FROM version WHERE host = ?1 AND slug = ?2 ORDER BY host, slug") (Text host ∷ Text slug ∷ [])
 unfolding everything
-version_is = (refl, refl)
+version_asked s host slug = asks of_versions s _ _ _ _ _ (refl, refl) refl (is_version host slug) (λ n x. rw (equal_text x.host host, equal_text x.version.slug slug) (two (bytes_eq x.host host) (bytes_eq x.version.slug slug))) (λ tree n x. refl) (λ x y. refl)
 
-pub version_asked : (s : State) (host slug : List ℕ) → AsksFor versions.encode IsVersion (λ l. l.versions) (is_version host slug) s version_text (Text host ∷ Text slug ∷ [])
-version_asked s host slug = asks of_versions s version_text _ _ _ _ version_is refl (is_version host slug) (λ n x. rw (equal_text x.host host, equal_text x.version.slug slug) (two (bytes_eq x.host host) (bytes_eq x.version.slug slug))) (λ tree n x. refl) (λ x y. refl)
-
-abbrev pub versions_text : List ℕ
-versions_text = codes "SELECT host, slug, name, kind, active, hidden, private FROM version WHERE host = ?1 ORDER BY host, slug"
-
-versions_is : (select_of version_table versions_text ≡ Some (0 ∷ 1 ∷ 2 ∷ 3 ∷ 4 ∷ 5 ∷ 6 ∷ [], (0, 0) ∷ [], 0 ∷ 1 ∷ [])) × (parameters_in versions_text ≡ Some 1)
+pub versions_asked : (s : State) (host : List ℕ) → AsksFor versions.encode IsVersion (λ l. l.versions) (is_version_of host) s (codes "SELECT host, slug, name, kind, active, hidden, private FROM version WHERE host = ?1 ORDER BY host, slug") (Text host ∷ [])
 unfolding everything
-versions_is = (refl, refl)
+versions_asked s host = asks of_versions s _ _ _ _ _ (refl, refl) refl (is_version_of host) (λ n x. rw (equal_text x.host host) (one (bytes_eq x.host host))) (λ tree n x. refl) (λ x y. refl)
 
-pub versions_asked : (s : State) (host : List ℕ) → AsksFor versions.encode IsVersion (λ l. l.versions) (is_version_of host) s versions_text (Text host ∷ [])
-versions_asked s host = asks of_versions s versions_text _ _ _ _ versions_is refl (is_version_of host) (λ n x. rw (equal_text x.host host) (one (bytes_eq x.host host))) (λ tree n x. refl) (λ x y. refl)
-
-abbrev pub page_text : List ℕ
-page_text = codes "SELECT host, slug, lang, path, media, body FROM page WHERE host = ?1 AND slug = ?2 AND lang = ?3 AND path = ?4 ORDER BY host, slug, lang, path"
-
-page_is : (select_of page_table page_text ≡ Some (0 ∷ 1 ∷ 2 ∷ 3 ∷ 4 ∷ 5 ∷ [], (0, 0) ∷ (1, 1) ∷ (2, 2) ∷ (3, 3) ∷ [], 0 ∷ 1 ∷ 2 ∷ 3 ∷ [])) × (parameters_in page_text ≡ Some 4)
+pub page_asked : (s : State) (host slug lang path : List ℕ) → AsksFor pages.encode IsPage (λ l. l.pages) (is_page host slug lang path) s (codes "SELECT host, slug, lang, path, media, body FROM page WHERE host = ?1 AND slug = ?2 AND lang = ?3 AND path = ?4 ORDER BY host, slug, lang, path") (Text host ∷ Text slug ∷ Text lang ∷ Text path ∷ [])
 unfolding everything
-page_is = (refl, refl)
+page_asked s host slug lang path = asks of_pages s _ _ _ _ _ (refl, refl) refl (is_page host slug lang path) (λ n x. rw (equal_text x.host host, equal_text x.slug slug, equal_text x.lang lang, equal_text x.path path) (four (bytes_eq x.host host) (bytes_eq x.slug slug) (bytes_eq x.lang lang) (bytes_eq x.path path))) (λ tree n x. refl) (λ x y. refl)
 
-pub page_asked : (s : State) (host slug lang path : List ℕ) → AsksFor pages.encode IsPage (λ l. l.pages) (is_page host slug lang path) s page_text (Text host ∷ Text slug ∷ Text lang ∷ Text path ∷ [])
-page_asked s host slug lang path = asks of_pages s page_text _ _ _ _ page_is refl (is_page host slug lang path) (λ n x. rw (equal_text x.host host, equal_text x.slug slug, equal_text x.lang lang, equal_text x.path path) (four (bytes_eq x.host host) (bytes_eq x.slug slug) (bytes_eq x.lang lang) (bytes_eq x.path path))) (λ tree n x. refl) (λ x y. refl)
-
-abbrev pub has_page_text : List ℕ
-has_page_text = codes "SELECT host, slug, lang, path FROM page WHERE host = ?1 AND slug = ?2 AND lang = ?3 AND path = ?4 ORDER BY host, slug, lang, path"
-
-has_page_is : (select_of page_table has_page_text ≡ Some (0 ∷ 1 ∷ 2 ∷ 3 ∷ [], (0, 0) ∷ (1, 1) ∷ (2, 2) ∷ (3, 3) ∷ [], 0 ∷ 1 ∷ 2 ∷ 3 ∷ [])) × (parameters_in has_page_text ≡ Some 4)
+pub has_page_asked : (s : State) (host slug lang path : List ℕ) → AsksFor pages.key IsPage (λ l. l.pages) (is_page host slug lang path) s (codes "SELECT host, slug, lang, path FROM page WHERE host = ?1 AND slug = ?2 AND lang = ?3 AND path = ?4 ORDER BY host, slug, lang, path") (Text host ∷ Text slug ∷ Text lang ∷ Text path ∷ [])
 unfolding everything
-has_page_is = (refl, refl)
+has_page_asked s host slug lang path = asks_shown of_pages s _ _ _ _ _ (refl, refl) refl (is_page host slug lang path) pages.key (λ n x. rw (equal_text x.host host, equal_text x.slug slug, equal_text x.lang lang, equal_text x.path path) (four (bytes_eq x.host host) (bytes_eq x.slug slug) (bytes_eq x.lang lang) (bytes_eq x.path path))) (λ tree n x. refl) (λ x y. refl)
 
-pub has_page_asked : (s : State) (host slug lang path : List ℕ) → AsksFor pages.key IsPage (λ l. l.pages) (is_page host slug lang path) s has_page_text (Text host ∷ Text slug ∷ Text lang ∷ Text path ∷ [])
-has_page_asked s host slug lang path = asks_shown of_pages s has_page_text _ _ _ _ has_page_is refl (is_page host slug lang path) pages.key (λ n x. rw (equal_text x.host host, equal_text x.slug slug, equal_text x.lang lang, equal_text x.path path) (four (bytes_eq x.host host) (bytes_eq x.slug slug) (bytes_eq x.lang lang) (bytes_eq x.path path))) (λ tree n x. refl) (λ x y. refl)
-
-abbrev pub pages_in_text : List ℕ
-pages_in_text = codes "SELECT host, slug, lang, path, media, body FROM page WHERE host = ?1 AND slug = ?2 AND lang = ?3 ORDER BY host, slug, lang, path"
-
-pages_in_is : (select_of page_table pages_in_text ≡ Some (0 ∷ 1 ∷ 2 ∷ 3 ∷ 4 ∷ 5 ∷ [], (0, 0) ∷ (1, 1) ∷ (2, 2) ∷ [], 0 ∷ 1 ∷ 2 ∷ 3 ∷ [])) × (parameters_in pages_in_text ≡ Some 3)
+pub pages_in_asked : (s : State) (host slug lang : List ℕ) → AsksFor pages.encode IsPage (λ l. l.pages) (is_page_in host slug lang) s (codes "SELECT host, slug, lang, path, media, body FROM page WHERE host = ?1 AND slug = ?2 AND lang = ?3 ORDER BY host, slug, lang, path") (Text host ∷ Text slug ∷ Text lang ∷ [])
 unfolding everything
-pages_in_is = (refl, refl)
+pages_in_asked s host slug lang = asks of_pages s _ _ _ _ _ (refl, refl) refl (is_page_in host slug lang) (λ n x. rw (equal_text x.host host, equal_text x.slug slug, equal_text x.lang lang) (three (bytes_eq x.host host) (bytes_eq x.slug slug) (bytes_eq x.lang lang))) (λ tree n x. refl) (λ x y. refl)
 
-pub pages_in_asked : (s : State) (host slug lang : List ℕ) → AsksFor pages.encode IsPage (λ l. l.pages) (is_page_in host slug lang) s pages_in_text (Text host ∷ Text slug ∷ Text lang ∷ [])
-pages_in_asked s host slug lang = asks of_pages s pages_in_text _ _ _ _ pages_in_is refl (is_page_in host slug lang) (λ n x. rw (equal_text x.host host, equal_text x.slug slug, equal_text x.lang lang) (three (bytes_eq x.host host) (bytes_eq x.slug slug) (bytes_eq x.lang lang))) (λ tree n x. refl) (λ x y. refl)
-
-abbrev pub used_text : List ℕ
-used_text = codes "SELECT host, slug, op, retry, answer FROM used WHERE host = ?1 AND slug = ?2 AND op = ?3 AND retry = ?4 ORDER BY host, slug, op, retry"
-
-used_is : (select_of used_table used_text ≡ Some (0 ∷ 1 ∷ 2 ∷ 3 ∷ 4 ∷ [], (0, 0) ∷ (1, 1) ∷ (2, 2) ∷ (3, 3) ∷ [], 0 ∷ 1 ∷ 2 ∷ 3 ∷ [])) × (parameters_in used_text ≡ Some 4)
+pub used_asked : (s : State) (host slug : List ℕ) (op : Operation) (retry : List ℕ) → AsksFor used.encode IsUsed (λ l. l.used) (is_used host slug op retry) s (codes "SELECT host, slug, op, retry, answer FROM used WHERE host = ?1 AND slug = ?2 AND op = ?3 AND retry = ?4 ORDER BY host, slug, op, retry") (Text host ∷ Text slug ∷ flag (is_upload op) ∷ Text retry ∷ [])
 unfolding everything
-used_is = (refl, refl)
+used_asked s host slug op retry = asks of_used s _ _ _ _ _ (refl, refl) refl (is_used host slug op retry) (λ n x. rw (equal_text x.host host, equal_text x.slug slug, equal_op x.op op, equal_text x.retry retry) (four (bytes_eq x.host host) (bytes_eq x.slug slug) (same_op x.op op) (bytes_eq x.retry retry))) (λ tree n x. refl) (λ x y. refl)
 
-pub used_asked : (s : State) (host slug : List ℕ) (op : Operation) (retry : List ℕ) → AsksFor used.encode IsUsed (λ l. l.used) (is_used host slug op retry) s used_text (Text host ∷ Text slug ∷ flag (is_upload op) ∷ Text retry ∷ [])
-used_asked s host slug op retry = asks of_used s used_text _ _ _ _ used_is refl (is_used host slug op retry) (λ n x. rw (equal_text x.host host, equal_text x.slug slug, equal_op x.op op, equal_text x.retry retry) (four (bytes_eq x.host host) (bytes_eq x.slug slug) (same_op x.op op) (bytes_eq x.retry retry))) (λ tree n x. refl) (λ x y. refl)
-
-abbrev pub add_project_text : List ℕ
-add_project_text = codes "INSERT INTO project VALUES (?1, ?2, ?3, ?4, ?5)"
-
-add_project_read : (schema : Schema) (tree : ℕ) → insert_of schema (record project_table { tree = tree }) add_project_text ≡ Some (lit Null ∷ col 0 0 ∷ col 0 1 ∷ col 0 2 ∷ col 0 3 ∷ col 0 4 ∷ [], 6)
+pub add_project_alters : (s : State) → HoldsTables s.now → (x : ProjectRow) → IsProject x → IsFreeKey projects.key x (lists_of s.now).projects → AltersLists s (codes "INSERT INTO project VALUES (?1, ?2, ?3, ?4, ?5)") (projects.encode x) (change.add_project x)
 unfolding everything
-add_project_read schema tree = refl
+add_project_alters s had x typed free = inserts of_projects s had x typed _ _ _ (λ schema tree. refl) (tt, (tt, (tt, (tt, (tt, tt))))) refl free
 
-pub add_project_alters : (s : State) → HoldsTables s.now → (x : ProjectRow) → IsProject x → IsFreeKey projects.key x (lists_of s.now).projects → AltersLists s add_project_text (projects.encode x) (change.add_project x)
-add_project_alters s had x typed free = inserts of_projects s had x typed add_project_text _ _ add_project_read (tt, (tt, (tt, (tt, (tt, tt))))) refl free
-
-abbrev pub add_lang_text : List ℕ
-add_lang_text = codes "INSERT INTO lang VALUES (?1, ?2, ?3)"
-
-add_lang_read : (schema : Schema) (tree : ℕ) → insert_of schema (record lang_table { tree = tree }) add_lang_text ≡ Some (lit Null ∷ col 0 0 ∷ col 0 1 ∷ col 0 2 ∷ [], 4)
+pub add_lang_alters : (s : State) → HoldsTables s.now → (x : LangRow) → IsLanguage x → IsFreeKey langs.key x (lists_of s.now).langs → AltersLists s (codes "INSERT INTO lang VALUES (?1, ?2, ?3)") (langs.encode x) (change.add_lang x)
 unfolding everything
-add_lang_read schema tree = refl
+add_lang_alters s had x typed free = inserts of_langs s had x typed _ _ _ (λ schema tree. refl) (tt, (tt, (tt, tt))) refl free
 
-pub add_lang_alters : (s : State) → HoldsTables s.now → (x : LangRow) → IsLanguage x → IsFreeKey langs.key x (lists_of s.now).langs → AltersLists s add_lang_text (langs.encode x) (change.add_lang x)
-add_lang_alters s had x typed free = inserts of_langs s had x typed add_lang_text _ _ add_lang_read (tt, (tt, (tt, tt))) refl free
-
-abbrev pub keep_text : List ℕ
-keep_text = codes "INSERT INTO used VALUES (?1, ?2, ?3, ?4, ?5)"
-
-keep_read : (schema : Schema) (tree : ℕ) → insert_of schema (record used_table { tree = tree }) keep_text ≡ Some (lit Null ∷ col 0 0 ∷ col 0 1 ∷ col 0 2 ∷ col 0 3 ∷ col 0 4 ∷ [], 6)
+pub keep_alters : (s : State) → HoldsTables s.now → (x : RetryRow) → IsUsed x → IsFreeKey used.key x (lists_of s.now).used → AltersLists s (codes "INSERT INTO used VALUES (?1, ?2, ?3, ?4, ?5)") (used.encode x) (change.add_used x)
 unfolding everything
-keep_read schema tree = refl
+keep_alters s had x typed free = inserts of_used s had x typed _ _ _ (λ schema tree. refl) (tt, (tt, (tt, (tt, (tt, tt))))) refl free
 
-pub keep_alters : (s : State) → HoldsTables s.now → (x : RetryRow) → IsUsed x → IsFreeKey used.key x (lists_of s.now).used → AltersLists s keep_text (used.encode x) (change.add_used x)
-keep_alters s had x typed free = inserts of_used s had x typed keep_text _ _ keep_read (tt, (tt, (tt, (tt, (tt, tt))))) refl free
-
-abbrev pub drop_pages_of_text : List ℕ
-drop_pages_of_text = codes "DELETE FROM page WHERE host = ?1 AND slug = ?2"
-
-drop_pages_of_read : delete_of page_table drop_pages_of_text ≡ Some ((0, 0) ∷ (1, 1) ∷ [])
+pub drop_pages_of_alters : (s : State) → HoldsTables s.now → (host slug : List ℕ) → AltersLists s (codes "DELETE FROM page WHERE host = ?1 AND slug = ?2") (Text host ∷ Text slug ∷ []) (change.drop_pages host slug None)
 unfolding everything
-drop_pages_of_read = refl
+drop_pages_of_alters s had host slug = deletes of_pages s had _ _ refl _ (is_page_of host slug) (λ n x. rw (equal_text x.host host, equal_text x.slug slug) (two (bytes_eq x.host host) (bytes_eq x.slug slug)))
 
-pub drop_pages_of_alters : (s : State) → HoldsTables s.now → (host slug : List ℕ) → AltersLists s drop_pages_of_text (Text host ∷ Text slug ∷ []) (change.drop_pages host slug None)
-drop_pages_of_alters s had host slug = deletes of_pages s had drop_pages_of_text _ drop_pages_of_read _ (is_page_of host slug) (λ n x. rw (equal_text x.host host, equal_text x.slug slug) (two (bytes_eq x.host host) (bytes_eq x.slug slug)))
-
-abbrev pub drop_pages_in_text : List ℕ
-drop_pages_in_text = codes "DELETE FROM page WHERE host = ?1 AND slug = ?2 AND lang = ?3"
-
-drop_pages_in_read : delete_of page_table drop_pages_in_text ≡ Some ((0, 0) ∷ (1, 1) ∷ (2, 2) ∷ [])
+pub drop_pages_in_alters : (s : State) → HoldsTables s.now → (host slug lang : List ℕ) → AltersLists s (codes "DELETE FROM page WHERE host = ?1 AND slug = ?2 AND lang = ?3") (Text host ∷ Text slug ∷ Text lang ∷ []) (change.drop_pages host slug (Some lang))
 unfolding everything
-drop_pages_in_read = refl
-
-pub drop_pages_in_alters : (s : State) → HoldsTables s.now → (host slug lang : List ℕ) → AltersLists s drop_pages_in_text (Text host ∷ Text slug ∷ Text lang ∷ []) (change.drop_pages host slug (Some lang))
-drop_pages_in_alters s had host slug lang = deletes of_pages s had drop_pages_in_text _ drop_pages_in_read _ (is_page_in host slug lang) (λ n x. rw (equal_text x.host host, equal_text x.slug slug, equal_text x.lang lang) (three (bytes_eq x.host host) (bytes_eq x.slug slug) (bytes_eq x.lang lang)))
+drop_pages_in_alters s had host slug lang = deletes of_pages s had _ _ refl _ (is_page_in host slug lang) (λ n x. rw (equal_text x.host host, equal_text x.slug slug, equal_text x.lang lang) (three (bytes_eq x.host host) (bytes_eq x.slug slug) (bytes_eq x.lang lang)))
 
 -- ---- records put in place of those with their keys
 
@@ -231,45 +153,21 @@ put_page_alters s had x typed = upserts of_pages s had x typed (1 ∷ 2 ∷ 3 �
 
 -- ---- defaults, passes and grants
 
-abbrev pub picks_text : List ℕ
-picks_text = codes "SELECT host, name, rank FROM pick WHERE host = ?1 ORDER BY host, rank"
-
-picks_is : (select_of pick_table picks_text ≡ Some (0 ∷ 1 ∷ 2 ∷ [], (0, 0) ∷ [], 0 ∷ 2 ∷ [])) × (parameters_in picks_text ≡ Some 1)
+pub picks_asked : (s : State) (host : List ℕ) → AsksFor picks.encode IsPick (λ l. l.picks) (is_pick_of host) s (codes "SELECT host, name, rank FROM pick WHERE host = ?1 ORDER BY host, rank") (Text host ∷ [])
 unfolding everything
-picks_is = (refl, refl)
+picks_asked s host = asks of_picks s _ _ _ _ _ (refl, refl) refl (is_pick_of host) (λ n x. rw (equal_text x.host host) (one (bytes_eq x.host host))) (λ tree n x. refl) (λ x y. refl)
 
-pub picks_asked : (s : State) (host : List ℕ) → AsksFor picks.encode IsPick (λ l. l.picks) (is_pick_of host) s picks_text (Text host ∷ [])
-picks_asked s host = asks of_picks s picks_text _ _ _ _ picks_is refl (is_pick_of host) (λ n x. rw (equal_text x.host host) (one (bytes_eq x.host host))) (λ tree n x. refl) (λ x y. refl)
-
-abbrev pub pass_text : List ℕ
-pass_text = codes "SELECT host, pass, until FROM pass WHERE host = ?1 AND pass = ?2 ORDER BY host, pass"
-
-pass_is : (select_of pass_table pass_text ≡ Some (0 ∷ 1 ∷ 2 ∷ [], (0, 0) ∷ (1, 1) ∷ [], 0 ∷ 1 ∷ [])) × (parameters_in pass_text ≡ Some 2)
+pub pass_asked : (s : State) (host pass : List ℕ) → AsksFor passes.encode IsPass (λ l. l.passes) (is_pass host pass) s (codes "SELECT host, pass, until FROM pass WHERE host = ?1 AND pass = ?2 ORDER BY host, pass") (Text host ∷ Text pass ∷ [])
 unfolding everything
-pass_is = (refl, refl)
+pass_asked s host pass = asks of_passes s _ _ _ _ _ (refl, refl) refl (is_pass host pass) (λ n x. rw (equal_text x.host host, equal_text x.pass pass) (two (bytes_eq x.host host) (bytes_eq x.pass pass))) (λ tree n x. refl) (λ x y. refl)
 
-pub pass_asked : (s : State) (host pass : List ℕ) → AsksFor passes.encode IsPass (λ l. l.passes) (is_pass host pass) s pass_text (Text host ∷ Text pass ∷ [])
-pass_asked s host pass = asks of_passes s pass_text _ _ _ _ pass_is refl (is_pass host pass) (λ n x. rw (equal_text x.host host, equal_text x.pass pass) (two (bytes_eq x.host host) (bytes_eq x.pass pass))) (λ tree n x. refl) (λ x y. refl)
-
-abbrev pub passes_text : List ℕ
-passes_text = codes "SELECT host, pass, until FROM pass WHERE host = ?1 ORDER BY host, pass"
-
-passes_is : (select_of pass_table passes_text ≡ Some (0 ∷ 1 ∷ 2 ∷ [], (0, 0) ∷ [], 0 ∷ 1 ∷ [])) × (parameters_in passes_text ≡ Some 1)
+pub passes_asked : (s : State) (host : List ℕ) → AsksFor passes.encode IsPass (λ l. l.passes) (is_pass_of host) s (codes "SELECT host, pass, until FROM pass WHERE host = ?1 ORDER BY host, pass") (Text host ∷ [])
 unfolding everything
-passes_is = (refl, refl)
+passes_asked s host = asks of_passes s _ _ _ _ _ (refl, refl) refl (is_pass_of host) (λ n x. rw (equal_text x.host host) (one (bytes_eq x.host host))) (λ tree n x. refl) (λ x y. refl)
 
-pub passes_asked : (s : State) (host : List ℕ) → AsksFor passes.encode IsPass (λ l. l.passes) (is_pass_of host) s passes_text (Text host ∷ [])
-passes_asked s host = asks of_passes s passes_text _ _ _ _ passes_is refl (is_pass_of host) (λ n x. rw (equal_text x.host host) (one (bytes_eq x.host host))) (λ tree n x. refl) (λ x y. refl)
-
-abbrev pub held_text : List ℕ
-held_text = codes "SELECT host, pass, slug FROM holds WHERE host = ?1 AND pass = ?2 AND slug = ?3 ORDER BY host, pass, slug"
-
-held_is : (select_of holds_table held_text ≡ Some (0 ∷ 1 ∷ 2 ∷ [], (0, 0) ∷ (1, 1) ∷ (2, 2) ∷ [], 0 ∷ 1 ∷ 2 ∷ [])) × (parameters_in held_text ≡ Some 3)
+pub held_asked : (s : State) (host pass slug : List ℕ) → AsksFor held.encode IsHeld (λ l. l.held) (is_held host pass slug) s (codes "SELECT host, pass, slug FROM holds WHERE host = ?1 AND pass = ?2 AND slug = ?3 ORDER BY host, pass, slug") (Text host ∷ Text pass ∷ Text slug ∷ [])
 unfolding everything
-held_is = (refl, refl)
-
-pub held_asked : (s : State) (host pass slug : List ℕ) → AsksFor held.encode IsHeld (λ l. l.held) (is_held host pass slug) s held_text (Text host ∷ Text pass ∷ Text slug ∷ [])
-held_asked s host pass slug = asks of_held s held_text _ _ _ _ held_is refl (is_held host pass slug) (λ n x. rw (equal_text x.host host, equal_text x.pass pass, equal_text x.slug slug) (three (bytes_eq x.host host) (bytes_eq x.pass pass) (bytes_eq x.slug slug))) (λ tree n x. refl) (λ x y. refl)
+held_asked s host pass slug = asks of_held s _ _ _ _ _ (refl, refl) refl (is_held host pass slug) (λ n x. rw (equal_text x.host host, equal_text x.pass pass, equal_text x.slug slug) (three (bytes_eq x.host host) (bytes_eq x.pass pass) (bytes_eq x.slug slug))) (λ tree n x. refl) (λ x y. refl)
 
 abbrev pub add_pick_text : List ℕ
 add_pick_text = codes "INSERT INTO pick VALUES (?1, ?2, ?3)"
@@ -287,107 +185,47 @@ pub add_pick_ranked : (s : State) → HoldsTables s.now → (x : DefaultRow) →
 add_pick_ranked s had x typed rank e free =
     subst (λ n. AltersLists s add_pick_text (Text x.host ∷ Text x.name ∷ Int n ∷ []) (change.add_pick x)) (sym e) (add_pick_alters s had x typed free)
 
-abbrev pub add_pass_text : List ℕ
-add_pass_text = codes "INSERT INTO pass VALUES (?1, ?2, ?3)"
-
-add_pass_read : (schema : Schema) (tree : ℕ) → insert_of schema (record pass_table { tree = tree }) add_pass_text ≡ Some (lit Null ∷ col 0 0 ∷ col 0 1 ∷ col 0 2 ∷ [], 4)
+pub add_pass_alters : (s : State) → HoldsTables s.now → (x : PassRow) → IsPass x → IsFreeKey passes.key x (lists_of s.now).passes → AltersLists s (codes "INSERT INTO pass VALUES (?1, ?2, ?3)") (passes.encode x) (change.add_pass x)
 unfolding everything
-add_pass_read schema tree = refl
+add_pass_alters s had x typed free = inserts of_passes s had x typed _ _ _ (λ schema tree. refl) (tt, (tt, (tt, tt))) refl free
 
-pub add_pass_alters : (s : State) → HoldsTables s.now → (x : PassRow) → IsPass x → IsFreeKey passes.key x (lists_of s.now).passes → AltersLists s add_pass_text (passes.encode x) (change.add_pass x)
-add_pass_alters s had x typed free = inserts of_passes s had x typed add_pass_text _ _ add_pass_read (tt, (tt, (tt, tt))) refl free
-
-abbrev pub add_grant_text : List ℕ
-add_grant_text = codes "INSERT INTO holds VALUES (?1, ?2, ?3)"
-
-add_grant_read : (schema : Schema) (tree : ℕ) → insert_of schema (record holds_table { tree = tree }) add_grant_text ≡ Some (lit Null ∷ col 0 0 ∷ col 0 1 ∷ col 0 2 ∷ [], 4)
+pub add_grant_alters : (s : State) → HoldsTables s.now → (x : GrantRow) → IsHeld x → IsFreeKey held.key x (lists_of s.now).held → AltersLists s (codes "INSERT INTO holds VALUES (?1, ?2, ?3)") (held.encode x) (change.add_grant x)
 unfolding everything
-add_grant_read schema tree = refl
+add_grant_alters s had x typed free = inserts of_held s had x typed _ _ _ (λ schema tree. refl) (tt, (tt, (tt, tt))) refl free
 
-pub add_grant_alters : (s : State) → HoldsTables s.now → (x : GrantRow) → IsHeld x → IsFreeKey held.key x (lists_of s.now).held → AltersLists s add_grant_text (held.encode x) (change.add_grant x)
-add_grant_alters s had x typed free = inserts of_held s had x typed add_grant_text _ _ add_grant_read (tt, (tt, (tt, tt))) refl free
-
-abbrev pub drop_picks_text : List ℕ
-drop_picks_text = codes "DELETE FROM pick WHERE host = ?1"
-
-drop_picks_read : delete_of pick_table drop_picks_text ≡ Some ((0, 0) ∷ [])
+pub drop_picks_alters : (s : State) → HoldsTables s.now → (host : List ℕ) → AltersLists s (codes "DELETE FROM pick WHERE host = ?1") (Text host ∷ []) (change.drop_picks host)
 unfolding everything
-drop_picks_read = refl
+drop_picks_alters s had host = deletes of_picks s had _ _ refl _ (is_pick_of host) (λ n x. rw (equal_text x.host host) (one (bytes_eq x.host host)))
 
-pub drop_picks_alters : (s : State) → HoldsTables s.now → (host : List ℕ) → AltersLists s drop_picks_text (Text host ∷ []) (change.drop_picks host)
-drop_picks_alters s had host = deletes of_picks s had drop_picks_text _ drop_picks_read _ (is_pick_of host) (λ n x. rw (equal_text x.host host) (one (bytes_eq x.host host)))
-
-abbrev pub drop_pass_text : List ℕ
-drop_pass_text = codes "DELETE FROM pass WHERE host = ?1 AND pass = ?2"
-
-drop_pass_read : delete_of pass_table drop_pass_text ≡ Some ((0, 0) ∷ (1, 1) ∷ [])
+pub drop_pass_alters : (s : State) → HoldsTables s.now → (host pass : List ℕ) → AltersLists s (codes "DELETE FROM pass WHERE host = ?1 AND pass = ?2") (Text host ∷ Text pass ∷ []) (change.drop_pass host pass)
 unfolding everything
-drop_pass_read = refl
+drop_pass_alters s had host pass = deletes of_passes s had _ _ refl _ (is_pass host pass) (λ n x. rw (equal_text x.host host, equal_text x.pass pass) (two (bytes_eq x.host host) (bytes_eq x.pass pass)))
 
-pub drop_pass_alters : (s : State) → HoldsTables s.now → (host pass : List ℕ) → AltersLists s drop_pass_text (Text host ∷ Text pass ∷ []) (change.drop_pass host pass)
-drop_pass_alters s had host pass = deletes of_passes s had drop_pass_text _ drop_pass_read _ (is_pass host pass) (λ n x. rw (equal_text x.host host, equal_text x.pass pass) (two (bytes_eq x.host host) (bytes_eq x.pass pass)))
-
-abbrev pub revoke_text : List ℕ
-revoke_text = codes "DELETE FROM holds WHERE host = ?1 AND pass = ?2 AND slug = ?3"
-
-revoke_read : delete_of holds_table revoke_text ≡ Some ((0, 0) ∷ (1, 1) ∷ (2, 2) ∷ [])
+pub revoke_alters : (s : State) → HoldsTables s.now → (host pass slug : List ℕ) → AltersLists s (codes "DELETE FROM holds WHERE host = ?1 AND pass = ?2 AND slug = ?3") (Text host ∷ Text pass ∷ Text slug ∷ []) (change.revoke host pass slug)
 unfolding everything
-revoke_read = refl
+revoke_alters s had host pass slug = deletes of_held s had _ _ refl _ (is_held host pass slug) (λ n x. rw (equal_text x.host host, equal_text x.pass pass, equal_text x.slug slug) (three (bytes_eq x.host host) (bytes_eq x.pass pass) (bytes_eq x.slug slug)))
 
-pub revoke_alters : (s : State) → HoldsTables s.now → (host pass slug : List ℕ) → AltersLists s revoke_text (Text host ∷ Text pass ∷ Text slug ∷ []) (change.revoke host pass slug)
-revoke_alters s had host pass slug = deletes of_held s had revoke_text _ revoke_read _ (is_held host pass slug) (λ n x. rw (equal_text x.host host, equal_text x.pass pass, equal_text x.slug slug) (three (bytes_eq x.host host) (bytes_eq x.pass pass) (bytes_eq x.slug slug)))
-
-abbrev pub drop_grants_of_text : List ℕ
-drop_grants_of_text = codes "DELETE FROM holds WHERE host = ?1 AND slug = ?2"
-
-drop_grants_of_read : delete_of holds_table drop_grants_of_text ≡ Some ((0, 0) ∷ (2, 1) ∷ [])
+pub drop_grants_of_alters : (s : State) → HoldsTables s.now → (host slug : List ℕ) → AltersLists s (codes "DELETE FROM holds WHERE host = ?1 AND slug = ?2") (Text host ∷ Text slug ∷ []) (change.drop_grants_of host slug)
 unfolding everything
-drop_grants_of_read = refl
+drop_grants_of_alters s had host slug = deletes of_held s had _ _ refl _ (is_held_on host slug) (λ n x. rw (equal_text x.host host, equal_text x.slug slug) (two (bytes_eq x.host host) (bytes_eq x.slug slug)))
 
-pub drop_grants_of_alters : (s : State) → HoldsTables s.now → (host slug : List ℕ) → AltersLists s drop_grants_of_text (Text host ∷ Text slug ∷ []) (change.drop_grants_of host slug)
-drop_grants_of_alters s had host slug = deletes of_held s had drop_grants_of_text _ drop_grants_of_read _ (is_held_on host slug) (λ n x. rw (equal_text x.host host, equal_text x.slug slug) (two (bytes_eq x.host host) (bytes_eq x.slug slug)))
-
-abbrev pub drop_grants_by_text : List ℕ
-drop_grants_by_text = codes "DELETE FROM holds WHERE host = ?1 AND pass = ?2"
-
-drop_grants_by_read : delete_of holds_table drop_grants_by_text ≡ Some ((0, 0) ∷ (1, 1) ∷ [])
+pub drop_grants_by_alters : (s : State) → HoldsTables s.now → (host pass : List ℕ) → AltersLists s (codes "DELETE FROM holds WHERE host = ?1 AND pass = ?2") (Text host ∷ Text pass ∷ []) (change.drop_grants_by host pass)
 unfolding everything
-drop_grants_by_read = refl
+drop_grants_by_alters s had host pass = deletes of_held s had _ _ refl _ (is_held_by host pass) (λ n x. rw (equal_text x.host host, equal_text x.pass pass) (two (bytes_eq x.host host) (bytes_eq x.pass pass)))
 
-pub drop_grants_by_alters : (s : State) → HoldsTables s.now → (host pass : List ℕ) → AltersLists s drop_grants_by_text (Text host ∷ Text pass ∷ []) (change.drop_grants_by host pass)
-drop_grants_by_alters s had host pass = deletes of_held s had drop_grants_by_text _ drop_grants_by_read _ (is_held_by host pass) (λ n x. rw (equal_text x.host host, equal_text x.pass pass) (two (bytes_eq x.host host) (bytes_eq x.pass pass)))
-
-abbrev pub drop_version_text : List ℕ
-drop_version_text = codes "DELETE FROM version WHERE host = ?1 AND slug = ?2"
-
-drop_version_read : delete_of version_table drop_version_text ≡ Some ((0, 0) ∷ (1, 1) ∷ [])
+pub drop_version_alters : (s : State) → HoldsTables s.now → (host slug : List ℕ) → AltersLists s (codes "DELETE FROM version WHERE host = ?1 AND slug = ?2") (Text host ∷ Text slug ∷ []) (change.drop_version host slug)
 unfolding everything
-drop_version_read = refl
+drop_version_alters s had host slug = deletes of_versions s had _ _ refl _ (is_version host slug) (λ n x. rw (equal_text x.host host, equal_text x.version.slug slug) (two (bytes_eq x.host host) (bytes_eq x.version.slug slug)))
 
-pub drop_version_alters : (s : State) → HoldsTables s.now → (host slug : List ℕ) → AltersLists s drop_version_text (Text host ∷ Text slug ∷ []) (change.drop_version host slug)
-drop_version_alters s had host slug = deletes of_versions s had drop_version_text _ drop_version_read _ (is_version host slug) (λ n x. rw (equal_text x.host host, equal_text x.version.slug slug) (two (bytes_eq x.host host) (bytes_eq x.version.slug slug)))
-
-abbrev pub held_by_text : List ℕ
-held_by_text = codes "SELECT host, pass, slug FROM holds WHERE host = ?1 AND pass = ?2 ORDER BY host, pass, slug"
-
-held_by_is : (select_of holds_table held_by_text ≡ Some (0 ∷ 1 ∷ 2 ∷ [], (0, 0) ∷ (1, 1) ∷ [], 0 ∷ 1 ∷ 2 ∷ [])) × (parameters_in held_by_text ≡ Some 2)
+pub held_by_asked : (s : State) (host pass : List ℕ) → AsksFor held.encode IsHeld (λ l. l.held) (is_held_by host pass) s (codes "SELECT host, pass, slug FROM holds WHERE host = ?1 AND pass = ?2 ORDER BY host, pass, slug") (Text host ∷ Text pass ∷ [])
 unfolding everything
-held_by_is = (refl, refl)
-
-pub held_by_asked : (s : State) (host pass : List ℕ) → AsksFor held.encode IsHeld (λ l. l.held) (is_held_by host pass) s held_by_text (Text host ∷ Text pass ∷ [])
-held_by_asked s host pass = asks of_held s held_by_text _ _ _ _ held_by_is refl (is_held_by host pass) (λ n x. rw (equal_text x.host host, equal_text x.pass pass) (two (bytes_eq x.host host) (bytes_eq x.pass pass))) (λ tree n x. refl) (λ x y. refl)
+held_by_asked s host pass = asks of_held s _ _ _ _ _ (refl, refl) refl (is_held_by host pass) (λ n x. rw (equal_text x.host host, equal_text x.pass pass) (two (bytes_eq x.host host) (bytes_eq x.pass pass))) (λ tree n x. refl) (λ x y. refl)
 
 -- ---- rules
 
-abbrev pub rules_text : List ℕ
-rules_text = codes "SELECT host, place, kind, action, pattern FROM rule WHERE host = ?1 ORDER BY host, place"
-
-rules_is : (select_of rule_table rules_text ≡ Some (0 ∷ 1 ∷ 2 ∷ 3 ∷ 4 ∷ [], (0, 0) ∷ [], 0 ∷ 1 ∷ [])) × (parameters_in rules_text ≡ Some 1)
+pub rules_asked : (s : State) (host : List ℕ) → AsksFor rules.encode IsRule (λ l. l.rules) (is_rule_of host) s (codes "SELECT host, place, kind, action, pattern FROM rule WHERE host = ?1 ORDER BY host, place") (Text host ∷ [])
 unfolding everything
-rules_is = (refl, refl)
-
-pub rules_asked : (s : State) (host : List ℕ) → AsksFor rules.encode IsRule (λ l. l.rules) (is_rule_of host) s rules_text (Text host ∷ [])
-rules_asked s host = asks of_rules s rules_text _ _ _ _ rules_is refl (is_rule_of host) (λ n x. rw (equal_text x.host host) (one (bytes_eq x.host host))) (λ tree n x. refl) (λ x y. refl)
+rules_asked s host = asks of_rules s _ _ _ _ _ (refl, refl) refl (is_rule_of host) (λ n x. rw (equal_text x.host host) (one (bytes_eq x.host host))) (λ tree n x. refl) (λ x y. refl)
 
 rule_key : IsKeyOf rule_table (1 ∷ 2 ∷ [])
 rule_key = record { primary = refl; uniques = refl; apart = refl; own = refl; among = refl }
@@ -417,37 +255,19 @@ put_rule_fits x = record {
 pub put_rule_alters : (s : State) → HoldsTables s.now → (x : RuleRow) → IsRule x → AltersLists s put_rule_text (rules.encode x) (change.put_rule x)
 put_rule_alters s had x typed = upserts of_rules s had x typed (1 ∷ 2 ∷ []) rule_key put_rule_text _ 6 5 put_rule_new put_rule_read refl (put_rule_fits x) refl
 
-abbrev pub drop_rules_behind_text : List ℕ
-drop_rules_behind_text = codes "DELETE FROM rule WHERE host = ?1 AND place > ?2"
-
-drop_rules_behind_read : delete_above_of rule_table drop_rules_behind_text ≡ Some ((0, 0) ∷ [], (1, 1))
+pub drop_rules_behind_alters : (s : State) → HoldsTables s.now → (host : List ℕ) (count : ℕ) → AltersLists s (codes "DELETE FROM rule WHERE host = ?1 AND place > ?2") (Text host ∷ Int (pos count) ∷ []) (change.drop_rules_behind host count)
 unfolding everything
-drop_rules_behind_read = refl
-
-pub drop_rules_behind_alters : (s : State) → HoldsTables s.now → (host : List ℕ) (count : ℕ) → AltersLists s drop_rules_behind_text (Text host ∷ Int (pos count) ∷ []) (change.drop_rules_behind host count)
-drop_rules_behind_alters s had host count = deletes_above of_rules s had drop_rules_behind_text _ _ drop_rules_behind_read _ (is_rule_behind host count) (λ n x. rw (equal_text x.host host, above_place x.place count) (two (bytes_eq x.host host) (nat_lt count x.place)))
+drop_rules_behind_alters s had host count = deletes_above of_rules s had _ _ _ refl _ (is_rule_behind host count) (λ n x. rw (equal_text x.host host, above_place x.place count) (two (bytes_eq x.host host) (nat_lt count x.place)))
 
 -- ---- redirects
 
-abbrev pub redirects_text : List ℕ
-redirects_text = codes "SELECT host, place, kind, status, force, source, target FROM redirect WHERE host = ?1 ORDER BY host, place"
-
-redirects_is : (select_of redirect_table redirects_text ≡ Some (0 ∷ 1 ∷ 2 ∷ 3 ∷ 4 ∷ 5 ∷ 6 ∷ [], (0, 0) ∷ [], 0 ∷ 1 ∷ [])) × (parameters_in redirects_text ≡ Some 1)
+pub redirects_asked : (s : State) (host : List ℕ) → AsksFor redirects.encode IsRedirect (λ l. l.redirects) (is_redirect_of host) s (codes "SELECT host, place, kind, status, force, source, target FROM redirect WHERE host = ?1 ORDER BY host, place") (Text host ∷ [])
 unfolding everything
-redirects_is = (refl, refl)
+redirects_asked s host = asks of_redirects s _ _ _ _ _ (refl, refl) refl (is_redirect_of host) (λ n x. rw (equal_text x.host host) (one (bytes_eq x.host host))) (λ tree n x. refl) (λ x y. refl)
 
-pub redirects_asked : (s : State) (host : List ℕ) → AsksFor redirects.encode IsRedirect (λ l. l.redirects) (is_redirect_of host) s redirects_text (Text host ∷ [])
-redirects_asked s host = asks of_redirects s redirects_text _ _ _ _ redirects_is refl (is_redirect_of host) (λ n x. rw (equal_text x.host host) (one (bytes_eq x.host host))) (λ tree n x. refl) (λ x y. refl)
-
-abbrev pub redirect_at_text : List ℕ
-redirect_at_text = codes "SELECT host, place, kind, status, force, source, target FROM redirect WHERE host = ?1 AND place = ?2 ORDER BY host, place"
-
-redirect_at_is : (select_of redirect_table redirect_at_text ≡ Some (0 ∷ 1 ∷ 2 ∷ 3 ∷ 4 ∷ 5 ∷ 6 ∷ [], (0, 0) ∷ (1, 1) ∷ [], 0 ∷ 1 ∷ [])) × (parameters_in redirect_at_text ≡ Some 2)
+pub redirect_at_asked : (s : State) (host : List ℕ) (place : ℕ) → AsksFor redirects.encode IsRedirect (λ l. l.redirects) (is_redirect_at host place) s (codes "SELECT host, place, kind, status, force, source, target FROM redirect WHERE host = ?1 AND place = ?2 ORDER BY host, place") (Text host ∷ Int (pos place) ∷ [])
 unfolding everything
-redirect_at_is = (refl, refl)
-
-pub redirect_at_asked : (s : State) (host : List ℕ) (place : ℕ) → AsksFor redirects.encode IsRedirect (λ l. l.redirects) (is_redirect_at host place) s redirect_at_text (Text host ∷ Int (pos place) ∷ [])
-redirect_at_asked s host place = asks of_redirects s redirect_at_text _ _ _ _ redirect_at_is refl (is_redirect_at host place) (λ n x. rw (equal_text x.host host, equal_place x.place place) (two (bytes_eq x.host host) (x.place == place))) (λ tree n x. refl) (λ x y. refl)
+redirect_at_asked s host place = asks of_redirects s _ _ _ _ _ (refl, refl) refl (is_redirect_at host place) (λ n x. rw (equal_text x.host host, equal_place x.place place) (two (bytes_eq x.host host) (x.place == place))) (λ tree n x. refl) (λ x y. refl)
 
 redirect_key : IsKeyOf redirect_table (1 ∷ 2 ∷ [])
 redirect_key = record { primary = refl; uniques = refl; apart = refl; own = refl; among = refl }
@@ -477,37 +297,19 @@ put_redirect_fits x = record {
 pub put_redirect_alters : (s : State) → HoldsTables s.now → (x : RedirectRow) → IsRedirect x → AltersLists s put_redirect_text (redirects.encode x) (change.put_redirect x)
 put_redirect_alters s had x typed = upserts of_redirects s had x typed (1 ∷ 2 ∷ []) redirect_key put_redirect_text _ 8 7 put_redirect_new put_redirect_read refl (put_redirect_fits x) refl
 
-abbrev pub drop_redirects_behind_text : List ℕ
-drop_redirects_behind_text = codes "DELETE FROM redirect WHERE host = ?1 AND place > ?2"
-
-drop_redirects_behind_read : delete_above_of redirect_table drop_redirects_behind_text ≡ Some ((0, 0) ∷ [], (1, 1))
+pub drop_redirects_behind_alters : (s : State) → HoldsTables s.now → (host : List ℕ) (count : ℕ) → AltersLists s (codes "DELETE FROM redirect WHERE host = ?1 AND place > ?2") (Text host ∷ Int (pos count) ∷ []) (change.drop_redirects_behind host count)
 unfolding everything
-drop_redirects_behind_read = refl
-
-pub drop_redirects_behind_alters : (s : State) → HoldsTables s.now → (host : List ℕ) (count : ℕ) → AltersLists s drop_redirects_behind_text (Text host ∷ Int (pos count) ∷ []) (change.drop_redirects_behind host count)
-drop_redirects_behind_alters s had host count = deletes_above of_redirects s had drop_redirects_behind_text _ _ drop_redirects_behind_read _ (is_redirect_behind host count) (λ n x. rw (equal_text x.host host, above_place x.place count) (two (bytes_eq x.host host) (nat_lt count x.place)))
+drop_redirects_behind_alters s had host count = deletes_above of_redirects s had _ _ _ refl _ (is_redirect_behind host count) (λ n x. rw (equal_text x.host host, above_place x.place count) (two (bytes_eq x.host host) (nat_lt count x.place)))
 
 -- ---- aliases
 
-abbrev pub alias_text : List ℕ
-alias_text = codes "SELECT host, class, name, slug FROM alias WHERE host = ?1 AND class = ?2 AND name = ?3 ORDER BY host, class, name"
-
-alias_is : (select_of alias_table alias_text ≡ Some (0 ∷ 1 ∷ 2 ∷ 3 ∷ [], (0, 0) ∷ (1, 1) ∷ (2, 2) ∷ [], 0 ∷ 1 ∷ 2 ∷ [])) × (parameters_in alias_text ≡ Some 3)
+pub alias_asked : (s : State) (host class : List ℕ) (name : AliasName) → AsksFor aliases.encode IsAlias (λ l. l.aliases) (is_alias_at host class name) s (codes "SELECT host, class, name, slug FROM alias WHERE host = ?1 AND class = ?2 AND name = ?3 ORDER BY host, class, name") (Text host ∷ Text class ∷ Int (pos (alias_number name)) ∷ [])
 unfolding everything
-alias_is = (refl, refl)
+alias_asked s host class name = asks of_aliases s _ _ _ _ _ (refl, refl) refl (is_alias_at host class name) (λ n x. rw (equal_text x.host host, equal_text x.class class, equal_alias x.name name) (three (bytes_eq x.host host) (bytes_eq x.class class) (same_alias x.name name))) (λ tree n x. refl) (λ x y. refl)
 
-pub alias_asked : (s : State) (host class : List ℕ) (name : AliasName) → AsksFor aliases.encode IsAlias (λ l. l.aliases) (is_alias_at host class name) s alias_text (Text host ∷ Text class ∷ Int (pos (alias_number name)) ∷ [])
-alias_asked s host class name = asks of_aliases s alias_text _ _ _ _ alias_is refl (is_alias_at host class name) (λ n x. rw (equal_text x.host host, equal_text x.class class, equal_alias x.name name) (three (bytes_eq x.host host) (bytes_eq x.class class) (same_alias x.name name))) (λ tree n x. refl) (λ x y. refl)
-
-abbrev pub aliases_text : List ℕ
-aliases_text = codes "SELECT host, class, name, slug FROM alias WHERE host = ?1 ORDER BY host, class, name"
-
-aliases_is : (select_of alias_table aliases_text ≡ Some (0 ∷ 1 ∷ 2 ∷ 3 ∷ [], (0, 0) ∷ [], 0 ∷ 1 ∷ 2 ∷ [])) × (parameters_in aliases_text ≡ Some 1)
+pub aliases_asked : (s : State) (host : List ℕ) → AsksFor aliases.encode IsAlias (λ l. l.aliases) (is_alias_of host) s (codes "SELECT host, class, name, slug FROM alias WHERE host = ?1 ORDER BY host, class, name") (Text host ∷ [])
 unfolding everything
-aliases_is = (refl, refl)
-
-pub aliases_asked : (s : State) (host : List ℕ) → AsksFor aliases.encode IsAlias (λ l. l.aliases) (is_alias_of host) s aliases_text (Text host ∷ [])
-aliases_asked s host = asks of_aliases s aliases_text _ _ _ _ aliases_is refl (is_alias_of host) (λ n x. rw (equal_text x.host host) (one (bytes_eq x.host host))) (λ tree n x. refl) (λ x y. refl)
+aliases_asked s host = asks of_aliases s _ _ _ _ _ (refl, refl) refl (is_alias_of host) (λ n x. rw (equal_text x.host host) (one (bytes_eq x.host host))) (λ tree n x. refl) (λ x y. refl)
 
 alias_key : IsKeyOf alias_table (1 ∷ 2 ∷ 3 ∷ [])
 alias_key = record { primary = refl; uniques = refl; apart = refl; own = refl; among = refl }
@@ -538,47 +340,23 @@ put_alias_fits x = record {
 pub put_alias_alters : (s : State) → HoldsTables s.now → (x : AliasRow) → IsAlias x → AltersLists s put_alias_text (aliases.encode x) (change.put_alias x)
 put_alias_alters s had x typed = upserts of_aliases s had x typed (1 ∷ 2 ∷ 3 ∷ []) alias_key put_alias_text _ 5 4 put_alias_new put_alias_read refl (put_alias_fits x) refl
 
-abbrev pub drop_alias_text : List ℕ
-drop_alias_text = codes "DELETE FROM alias WHERE host = ?1 AND class = ?2 AND name = ?3"
-
-drop_alias_read : delete_of alias_table drop_alias_text ≡ Some ((0, 0) ∷ (1, 1) ∷ (2, 2) ∷ [])
+pub drop_alias_alters : (s : State) → HoldsTables s.now → (host class : List ℕ) (name : AliasName) → AltersLists s (codes "DELETE FROM alias WHERE host = ?1 AND class = ?2 AND name = ?3") (Text host ∷ Text class ∷ Int (pos (alias_number name)) ∷ []) (change.drop_alias host class name)
 unfolding everything
-drop_alias_read = refl
+drop_alias_alters s had host class name = deletes of_aliases s had _ _ refl _ (is_alias_at host class name) (λ n x. rw (equal_text x.host host, equal_text x.class class, equal_alias x.name name) (three (bytes_eq x.host host) (bytes_eq x.class class) (same_alias x.name name)))
 
-pub drop_alias_alters : (s : State) → HoldsTables s.now → (host class : List ℕ) (name : AliasName) → AltersLists s drop_alias_text (Text host ∷ Text class ∷ Int (pos (alias_number name)) ∷ []) (change.drop_alias host class name)
-drop_alias_alters s had host class name = deletes of_aliases s had drop_alias_text _ drop_alias_read _ (is_alias_at host class name) (λ n x. rw (equal_text x.host host, equal_text x.class class, equal_alias x.name name) (three (bytes_eq x.host host) (bytes_eq x.class class) (same_alias x.name name)))
-
-abbrev pub drop_aliases_text : List ℕ
-drop_aliases_text = codes "DELETE FROM alias WHERE host = ?1"
-
-drop_aliases_read : delete_of alias_table drop_aliases_text ≡ Some ((0, 0) ∷ [])
+pub drop_aliases_alters : (s : State) → HoldsTables s.now → (host : List ℕ) → AltersLists s (codes "DELETE FROM alias WHERE host = ?1") (Text host ∷ []) (change.drop_aliases host)
 unfolding everything
-drop_aliases_read = refl
-
-pub drop_aliases_alters : (s : State) → HoldsTables s.now → (host : List ℕ) → AltersLists s drop_aliases_text (Text host ∷ []) (change.drop_aliases host)
-drop_aliases_alters s had host = deletes of_aliases s had drop_aliases_text _ drop_aliases_read _ (is_alias_of host) (λ n x. rw (equal_text x.host host) (one (bytes_eq x.host host)))
+drop_aliases_alters s had host = deletes of_aliases s had _ _ refl _ (is_alias_of host) (λ n x. rw (equal_text x.host host) (one (bytes_eq x.host host)))
 
 -- ---- routes
 
-abbrev pub routes_text : List ℕ
-routes_text = codes "SELECT host, seg, place, force FROM route WHERE host = ?1 ORDER BY host, seg, place"
-
-routes_is : (select_of route_table routes_text ≡ Some (0 ∷ 1 ∷ 2 ∷ 3 ∷ [], (0, 0) ∷ [], 0 ∷ 1 ∷ 2 ∷ [])) × (parameters_in routes_text ≡ Some 1)
+pub routes_asked : (s : State) (host : List ℕ) → AsksFor routes.encode IsRoute (λ l. l.routes) (is_route_of host) s (codes "SELECT host, seg, place, force FROM route WHERE host = ?1 ORDER BY host, seg, place") (Text host ∷ [])
 unfolding everything
-routes_is = (refl, refl)
+routes_asked s host = asks of_routes s _ _ _ _ _ (refl, refl) refl (is_route_of host) (λ n x. rw (equal_text x.host host) (one (bytes_eq x.host host))) (λ tree n x. refl) (λ x y. refl)
 
-pub routes_asked : (s : State) (host : List ℕ) → AsksFor routes.encode IsRoute (λ l. l.routes) (is_route_of host) s routes_text (Text host ∷ [])
-routes_asked s host = asks of_routes s routes_text _ _ _ _ routes_is refl (is_route_of host) (λ n x. rw (equal_text x.host host) (one (bytes_eq x.host host))) (λ tree n x. refl) (λ x y. refl)
-
-abbrev pub routes_in_text : List ℕ
-routes_in_text = codes "SELECT host, seg, place, force FROM route WHERE host = ?1 AND seg = ?2 ORDER BY host, seg, place"
-
-routes_in_is : (select_of route_table routes_in_text ≡ Some (0 ∷ 1 ∷ 2 ∷ 3 ∷ [], (0, 0) ∷ (1, 1) ∷ [], 0 ∷ 1 ∷ 2 ∷ [])) × (parameters_in routes_in_text ≡ Some 2)
+pub routes_in_asked : (s : State) (host seg : List ℕ) → AsksFor routes.encode IsRoute (λ l. l.routes) (is_route_in host seg) s (codes "SELECT host, seg, place, force FROM route WHERE host = ?1 AND seg = ?2 ORDER BY host, seg, place") (Text host ∷ Text seg ∷ [])
 unfolding everything
-routes_in_is = (refl, refl)
-
-pub routes_in_asked : (s : State) (host seg : List ℕ) → AsksFor routes.encode IsRoute (λ l. l.routes) (is_route_in host seg) s routes_in_text (Text host ∷ Text seg ∷ [])
-routes_in_asked s host seg = asks of_routes s routes_in_text _ _ _ _ routes_in_is refl (is_route_in host seg) (λ n x. rw (equal_text x.host host, equal_text x.route.seg seg) (two (bytes_eq x.host host) (bytes_eq x.route.seg seg))) (λ tree n x. refl) (λ x y. refl)
+routes_in_asked s host seg = asks of_routes s _ _ _ _ _ (refl, refl) refl (is_route_in host seg) (λ n x. rw (equal_text x.host host, equal_text x.route.seg seg) (two (bytes_eq x.host host) (bytes_eq x.route.seg seg))) (λ tree n x. refl) (λ x y. refl)
 
 route_key : IsKeyOf route_table (1 ∷ 2 ∷ 3 ∷ [])
 route_key = record { primary = refl; uniques = refl; apart = refl; own = refl; among = refl }
@@ -609,12 +387,6 @@ put_route_fits x = record {
 pub put_route_alters : (s : State) → HoldsTables s.now → (x : RouteRow) → IsRoute x → AltersLists s put_route_text (routes.encode x) (change.put_route x)
 put_route_alters s had x typed = upserts of_routes s had x typed (1 ∷ 2 ∷ 3 ∷ []) route_key put_route_text _ 5 4 put_route_new put_route_read refl (put_route_fits x) refl
 
-abbrev pub drop_routes_text : List ℕ
-drop_routes_text = codes "DELETE FROM route WHERE host = ?1"
-
-drop_routes_read : delete_of route_table drop_routes_text ≡ Some ((0, 0) ∷ [])
+pub drop_routes_alters : (s : State) → HoldsTables s.now → (host : List ℕ) → AltersLists s (codes "DELETE FROM route WHERE host = ?1") (Text host ∷ []) (change.drop_routes host)
 unfolding everything
-drop_routes_read = refl
-
-pub drop_routes_alters : (s : State) → HoldsTables s.now → (host : List ℕ) → AltersLists s drop_routes_text (Text host ∷ []) (change.drop_routes host)
-drop_routes_alters s had host = deletes of_routes s had drop_routes_text _ drop_routes_read _ (is_route_of host) (λ n x. rw (equal_text x.host host) (one (bytes_eq x.host host)))
+drop_routes_alters s had host = deletes of_routes s had _ _ refl _ (is_route_of host) (λ n x. rw (equal_text x.host host) (one (bytes_eq x.host host)))

@@ -1,5 +1,5 @@
 -- What statements on whole tables ask and do.
-use Rattle.std.proofs.Common.{◌≡◌, ℕ, Bool, true, false, not, List, [], ◌∷◌, filter, codes, Some, Result, refl, ap, ◌∙◌}
+use Rattle.std.proofs.Common.{◌≡◌, Bool, true, false, not, List, [], filter, codes, Result, refl, ap, ◌∙◌}
 use Rattle.std.specs.Prelude.{Vec}
 use Rattle.std.proofs.lemmas.Result.{IfOk-weaker}
 use Rattle.sqlite_tied.specs.Compute.{everything}
@@ -9,12 +9,11 @@ use Rattle.sqlite.specs.State.{State}
 use Rattle.sqlite.specs.Held.{Held}
 use Rattle.dh_ports.specs.declared.fault.Fault.{Fault}
 use Rattle.dh_rows.specs.Calls.{seen_now}
-use Rattle.dh_rows.proofs.Read.{delete_of, parameters_in, select_of}
 use Rattle.dh_records.specs.Codings.{aliases, projects, routes}
 use Rattle.dh_records.specs.Lists.{Lists}
 use Rattle.dh_records.specs.Typed.{IsAlias, IsProject, IsRoute}
 use Rattle.dh_schema.specs.Calling.{ReadsAll}
-use Rattle.dh_schema.specs.Tables.{HoldsTables, alias_table, lists_of, project_table, route_table}
+use Rattle.dh_schema.specs.Tables.{HoldsTables, lists_of}
 use Rattle.dh_tables.proofs.OneTable.{asks, deletes}
 use Rattle.dh_tables.proofs.OurTables.{of_aliases, of_projects, of_routes}
 use Rattle.dh_tables.specs.Clearing.{without_aliases, without_routes}
@@ -24,35 +23,17 @@ use Rattle.dh_tables.specs.Meanings.{AltersLists, AsksFor}
 abbrev pub each : {X : Type 0} → X → Bool
 each x = true
 
-abbrev pub all_projects_text : List ℕ
-all_projects_text = codes "SELECT host, main, branch, wkey, private FROM project ORDER BY host"
-
-all_projects_is : (select_of project_table all_projects_text ≡ Some (0 ∷ 1 ∷ 2 ∷ 3 ∷ 4 ∷ [], [], 0 ∷ [])) × (parameters_in all_projects_text ≡ Some 0)
+pub all_projects_asked : (s : State) → AsksFor projects.encode IsProject (λ l. l.projects) each s (codes "SELECT host, main, branch, wkey, private FROM project ORDER BY host") []
 unfolding everything
-all_projects_is = (refl, refl)
+all_projects_asked s = asks of_projects s _ _ _ _ _ (refl, refl) refl each (λ n x. refl) (λ tree n x. refl) (λ x y. refl)
 
-pub all_projects_asked : (s : State) → AsksFor projects.encode IsProject (λ l. l.projects) each s all_projects_text []
-all_projects_asked s = asks of_projects s all_projects_text _ _ _ _ all_projects_is refl each (λ n x. refl) (λ tree n x. refl) (λ x y. refl)
-
-abbrev pub all_aliases_text : List ℕ
-all_aliases_text = codes "SELECT host, class, name, slug FROM alias ORDER BY host, class, name"
-
-all_aliases_is : (select_of alias_table all_aliases_text ≡ Some (0 ∷ 1 ∷ 2 ∷ 3 ∷ [], [], 0 ∷ 1 ∷ 2 ∷ [])) × (parameters_in all_aliases_text ≡ Some 0)
+pub all_aliases_asked : (s : State) → AsksFor aliases.encode IsAlias (λ l. l.aliases) each s (codes "SELECT host, class, name, slug FROM alias ORDER BY host, class, name") []
 unfolding everything
-all_aliases_is = (refl, refl)
+all_aliases_asked s = asks of_aliases s _ _ _ _ _ (refl, refl) refl each (λ n x. refl) (λ tree n x. refl) (λ x y. refl)
 
-pub all_aliases_asked : (s : State) → AsksFor aliases.encode IsAlias (λ l. l.aliases) each s all_aliases_text []
-all_aliases_asked s = asks of_aliases s all_aliases_text _ _ _ _ all_aliases_is refl each (λ n x. refl) (λ tree n x. refl) (λ x y. refl)
-
-abbrev pub all_routes_text : List ℕ
-all_routes_text = codes "SELECT host, seg, place, force FROM route ORDER BY host, seg, place"
-
-all_routes_is : (select_of route_table all_routes_text ≡ Some (0 ∷ 1 ∷ 2 ∷ 3 ∷ [], [], 0 ∷ 1 ∷ 2 ∷ [])) × (parameters_in all_routes_text ≡ Some 0)
+pub all_routes_asked : (s : State) → AsksFor routes.encode IsRoute (λ l. l.routes) each s (codes "SELECT host, seg, place, force FROM route ORDER BY host, seg, place") []
 unfolding everything
-all_routes_is = (refl, refl)
-
-pub all_routes_asked : (s : State) → AsksFor routes.encode IsRoute (λ l. l.routes) each s all_routes_text []
-all_routes_asked s = asks of_routes s all_routes_text _ _ _ _ all_routes_is refl each (λ n x. refl) (λ tree n x. refl) (λ x y. refl)
+all_routes_asked s = asks of_routes s _ _ _ _ _ (refl, refl) refl each (λ n x. refl) (λ tree n x. refl) (λ x y. refl)
 
 -- what is read of a table whole is all of its list
 pub whole_read
@@ -63,20 +44,14 @@ whole_read g old new part r it = record {
   value = λ honest. IfOk-weaker r _ _ (λ rows is. is ∙ filter_all each (part (seen_now g lists_of old)) (each_of (λ x. true ≡ true) (λ x. refl) _)) (it.value honest);
 }
 
-abbrev pub clear_aliases_text : List ℕ
-clear_aliases_text = codes "DELETE FROM alias"
-
-clear_aliases_read : delete_of alias_table clear_aliases_text ≡ Some []
-unfolding everything
-clear_aliases_read = refl
-
 -- none of a list is left
 none_left : {X : Type 0} (xs : List X) → filter (λ x. not (each x)) xs ≡ []
 none_left xs = filter_none _ xs (each_of (λ x. false ≡ false) (λ x. refl) xs)
 
-pub clear_aliases_alters : (s : State) → HoldsTables s.now → AltersLists s clear_aliases_text [] without_aliases
+pub clear_aliases_alters : (s : State) → HoldsTables s.now → AltersLists s (codes "DELETE FROM alias") [] without_aliases
+unfolding everything
 clear_aliases_alters s had =
-    let it = deletes of_aliases s had clear_aliases_text _ clear_aliases_read [] each (λ n x. refl) in record {
+    let it = deletes of_aliases s had _ _ refl [] each (λ n x. refl) in record {
       edit = it.edit;
       changed = λ after made.
           let c = it.changed after made in record {
@@ -86,16 +61,10 @@ clear_aliases_alters s had =
           };
     }
 
-abbrev pub clear_routes_text : List ℕ
-clear_routes_text = codes "DELETE FROM route"
-
-clear_routes_read : delete_of route_table clear_routes_text ≡ Some []
+pub clear_routes_alters : (s : State) → HoldsTables s.now → AltersLists s (codes "DELETE FROM route") [] without_routes
 unfolding everything
-clear_routes_read = refl
-
-pub clear_routes_alters : (s : State) → HoldsTables s.now → AltersLists s clear_routes_text [] without_routes
 clear_routes_alters s had =
-    let it = deletes of_routes s had clear_routes_text _ clear_routes_read [] each (λ n x. refl) in record {
+    let it = deletes of_routes s had _ _ refl [] each (λ n x. refl) in record {
       edit = it.edit;
       changed = λ after made.
           let c = it.changed after made in record {

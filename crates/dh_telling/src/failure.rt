@@ -229,7 +229,7 @@ pub fn put<E: Sink>(errors: &mut E, text: &str)
 }
 
 /// Writes the line that programs read.
-fn tell_name<E: Sink>(errors: &mut E, failure: Failure)
+fn print_name<E: Sink>(errors: &mut E, failure: Failure)
     ensures { WritesUnlessBroken E.broken E.held errors.old errors.new (name_text failure) }
 {
     put(errors, "fault ");
@@ -249,7 +249,7 @@ fn named_file(failure: Failure, file: Option<&str>) -> Option<&str>
 }
 
 /// Writes the file, where there is one to name.
-fn tell_file<E: Sink>(errors: &mut E, file: Option<&str>)
+fn print_file<E: Sink>(errors: &mut E, file: Option<&str>)
     ensures { WritesUnlessBroken E.broken E.held errors.old errors.new
         (file_text (option_map (λ name. name.now) file.entry)) }
 {
@@ -260,29 +260,29 @@ fn tell_file<E: Sink>(errors: &mut E, file: Option<&str>)
 }
 
 /// Writes what is wrong, and with which file.
-fn tell_cause<E: Sink>(errors: &mut E, failure: Failure, file: Option<&str>)
+fn print_cause<E: Sink>(errors: &mut E, failure: Failure, file: Option<&str>)
     ensures { TellsCause E.broken E.held errors.old errors.new
         (file_named failure (option_map (λ name. name.now) file.entry)) }
 {
     put(errors, "docs_host: ");
-    tell_file(errors, named_file(failure, file));
+    print_file(errors, named_file(failure, file));
     put(errors, failure.cause());
     put(errors, "\n");
 }
 
 /// Writes a fault: its name on the first line, and on the second what is wrong, and with which file.
-pub fn tell<E: Sink>(errors: &mut E, failure: Failure, file: Option<&str>) -> Status
+pub fn print_failure<E: Sink>(errors: &mut E, failure: Failure, file: Option<&str>) -> Status
     ensures status { result ≡ status_after failure }
     ensures told { TellsFault E.broken E.held errors.old errors.new failure
         (option_map (λ name. name.now) file.entry) }
 {
-    tell_name(errors, failure);
-    tell_cause(errors, failure, file);
+    print_name(errors, failure);
+    print_cause(errors, failure, file);
     failure.status()
 }
 
 /// Writes a sentence.
-pub fn tell_sentence<E: Sink>(errors: &mut E, sentence: &str)
+pub fn print_sentence<E: Sink>(errors: &mut E, sentence: &str)
     ensures { WritesUnlessBroken E.broken E.held errors.old errors.new
         (codes "docs_host: " ++ sentence.now ++ 10 ∷ []) }
 {
@@ -292,16 +292,16 @@ pub fn tell_sentence<E: Sink>(errors: &mut E, sentence: &str)
 }
 
 /// Writes why an order was not done, where it was not.
-pub fn tell_reason<E: Sink>(errors: &mut E, reason: Option<Reason>)
+pub fn print_reason<E: Sink>(errors: &mut E, reason: Option<Reason>)
     ensures { TellsSome E.broken E.held errors.old errors.new }
 {
     if let Some(reason) = reason {
-        tell_sentence(errors, reason.sentence());
+        print_sentence(errors, reason.sentence());
     }
 }
 
 /// Writes why a line of a script was refused, unless memory is out.
-pub fn tell_line<E: Sink>(alloc: Global, errors: &mut E, number: usize, sentence: &str)
+pub fn print_line<E: Sink>(alloc: Global, errors: &mut E, number: usize, sentence: &str)
     ensures { TellsSome E.broken E.held errors.old errors.new }
 {
     if let Ok(text) = format!(in alloc; "docs_host: line {number}: {sentence}\n") {
@@ -310,16 +310,16 @@ pub fn tell_line<E: Sink>(alloc: Global, errors: &mut E, number: usize, sentence
 }
 
 /// Writes which lines of a script were refused, and why.
-pub fn tell_report<E: Sink>(alloc: Global, errors: &mut E, report: &Report)
+pub fn print_report<E: Sink>(alloc: Global, errors: &mut E, report: &Report)
     ensures { TellsSome E.broken E.held errors.old errors.new }
 {
     for line in report.refused() {
-        tell_line(alloc, errors, line.number, line.reason.sentence());
+        print_line(alloc, errors, line.number, line.reason.sentence());
     }
 }
 
 /// Writes what is wrong with the words.
-pub fn tell_usage<E: Sink>(errors: &mut E, mistake: &str) -> Status
+pub fn print_usage<E: Sink>(errors: &mut E, mistake: &str) -> Status
     ensures status { result ≡ Status.Usage }
     ensures told { WritesUnlessBroken E.broken E.held errors.old errors.new
         (codes "docs_host: " ++ mistake.now ++ codes "; try 'docs_host --help'\n") }

@@ -9,10 +9,11 @@ mod saying;
 mod streams;
 
 pub use failure::{
-    Failure, Status, put, tell, tell_line, tell_reason, tell_report, tell_sentence, tell_usage,
+    Failure, Status, print_failure, print_line, print_reason, print_report, print_sentence,
+    print_usage, put,
 };
 pub use faults::{ControlFault, ListFileFault};
 pub use journal::is_journal;
-pub use refusing::tell_refusal;
+pub use refusing::print_refusal;
 pub use saying::say;
 pub use streams::Streams;

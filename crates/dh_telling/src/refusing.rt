@@ -5,7 +5,7 @@ ghost use Rattle.dh_redirects.specs.Redirects.{first_fault};
 ghost use Rattle.dh_server.specs.Telling.{TellsSome};
 ghost use Rattle.dh_telling.specs.Orders as spec;
 
-use crate::failure::{put, tell_sentence};
+use crate::failure::{print_sentence, put};
 use dh_lines::{DeskOrder, Order};
 use dh_ports::Sink;
 use dh_redirects::Redirect;
@@ -57,7 +57,7 @@ fn record_refused(order: &Order, reason: Reason) -> Option<usize>
 }
 
 /// Writes why a record of a list was refused, unless memory is out.
-fn tell_record<E: Sink>(alloc: Global, number: usize, reason: Reason, errors: &mut E)
+fn print_record<E: Sink>(alloc: Global, number: usize, reason: Reason, errors: &mut E)
     ensures { TellsSome E.broken E.held errors.old errors.new }
 {
     let sentence = reason.sentence();
@@ -67,14 +67,14 @@ fn tell_record<E: Sink>(alloc: Global, number: usize, reason: Reason, errors: &m
 }
 
 /// Writes why an order was refused, where it was; of an import, which record was.
-pub fn tell_refusal<E: Sink>(alloc: Global, order: &Order, refused: Option<Reason>, errors: &mut E)
+pub fn print_refusal<E: Sink>(alloc: Global, order: &Order, refused: Option<Reason>, errors: &mut E)
     ensures { TellsSome E.broken E.held errors.old errors.new }
 {
     let Some(reason) = refused else {
         return;
     };
     match record_refused(order, reason) {
-        Some(number) => tell_record(alloc, number, reason, errors),
-        None => tell_sentence(errors, reason.sentence()),
+        Some(number) => print_record(alloc, number, reason, errors),
+        None => print_sentence(errors, reason.sentence()),
     }
 }

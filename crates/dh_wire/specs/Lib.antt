@@ -1,3 +1,4 @@
+pub mod Reads
 pub mod Bodies
 pub mod Statuses
 pub mod Wire

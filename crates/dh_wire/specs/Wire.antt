@@ -30,17 +30,16 @@ allow_line allow = optional_line (codes "Allow") (option_map allow_text allow)
 unfoldable pub status_line : ℕ → List ℕ
 status_line status = codes "HTTP/1.1 " ++ decimal status ++ codes " " ++ phrase_of status ++ crlf
 
--- the lines on the reply: its status, location, allowed methods and media type
-unfoldable pub subject_of : Reply → List ℕ
-subject_of r = (status_line r.status ++ optional_line (codes "Location") r.location) ++ (allow_line r.allow ++ optional_line (codes "Content-Type") r.media)
-
--- the lines on the body's length and on the connection, and the empty line
-unfoldable pub framing_of : ℕ → List ℕ
-framing_of body_length = line (codes "Content-Length") (decimal body_length) ++ line (codes "Connection") (codes "close") ++ crlf
-
--- all before the body
+-- all before the body: the lines in their order, and the empty line
 unfoldable pub head_of : Reply → List ℕ
-head_of r = subject_of r ++ framing_of (length r.body)
+head_of r =
+    status_line r.status
+    ++ optional_line (codes "Location") r.location
+    ++ allow_line r.allow
+    ++ optional_line (codes "Content-Type") r.media
+    ++ line (codes "Content-Length") (decimal (length r.body))
+    ++ line (codes "Connection") (codes "close")
+    ++ crlf
 
 -- the bytes of a reply; to HEAD the body is left out
 abbrev pub reply_bytes_of : Reply → Bool → List ℕ

@@ -1,6 +1,9 @@
 //! What is asked for, and the reply.
 
-use dh_paths::{Bytes, Text};
+ghost use Rattle.std.specs.Prelude.{◌≡◌};
+ghost use Rattle.dh_wire.specs.Reads.{read_of};
+
+use dh_paths::{Bytes, Target, Text};
 
 /// What a GET or HEAD asks for under a host.
 #[derive(Drop)]
@@ -9,6 +12,20 @@ pub struct Read {
     pub path: Text,
     /// As written, without the `?`.
     pub query: Option<Text>,
+}
+
+impl Read {
+    /// The read of a target, whichever host it names.
+    pub fn of(target: Target) -> Read
+        ensures { result ≡ read_of target }
+    {
+        let Target {
+            host: _,
+            path,
+            query,
+        } = target;
+        Read { path, query }
+    }
 }
 
 /// The methods that a 405 names.

@@ -1,6 +1,7 @@
 //! Statuses, their phrases, and the replies that say no more than a status.
 
 ghost use Rattle.std.specs.Prelude.{◌≡◌, IfOk, IsTrue, string_bytes};
+ghost use Rattle.dh_wire.specs.Statuses as statuses;
 ghost use Rattle.dh_wire.specs.Statuses.{phrase_of, is_registered_status, fault_text, fault_reply_of};
 
 use crate::reply::{Allow, Reply};
@@ -67,4 +68,11 @@ pub fn fault_reply(alloc: Global, status: u16, allow: Option<Allow>) -> Result<R
         media: Some(Text::copy_of(alloc, "text/plain; charset=utf-8")?),
         body: Bytes::wrap(body.into_bytes()),
     })
+}
+
+/// 404, with the host's own text.
+pub fn host_not_found(alloc: Global) -> Result<Reply, AllocError>
+    ensures { IfOk result (λ r. r ≡ statuses.host_not_found) }
+{
+    fault_reply(alloc, 404, None)
 }

@@ -1,8 +1,8 @@
 //! The bytes of a reply.
 
-ghost use Rattle.std.specs.Prelude.{◌≡◌, ◌++◌, IfOk, OnOk, None, codes};
+ghost use Rattle.std.specs.Prelude.{◌≡◌, ◌++◌, IfOk, OnOk, None};
 ghost use Rattle.dh_wire.specs.Statuses.{fault_reply_of};
-ghost use Rattle.dh_wire.specs.Wire.{line, optional_line, allow_line, status_line, subject_of, framing_of, head_of, reply_bytes_of};
+ghost use Rattle.dh_wire.specs.Wire.{line, optional_line, allow_line, status_line, head_of, reply_bytes_of};
 
 use crate::reply::{Allow, Reply};
 use crate::statuses::phrase;
@@ -70,53 +70,19 @@ fn put_status(alloc: Global, out: &mut Vec<u8>, status: u16) -> Result<(), Alloc
     put(out, "\r\n")
 }
 
-fn put_status_and_location(
-    alloc: Global,
-    out: &mut Vec<u8>,
-    reply: &Reply,
-) -> Result<(), AllocError>
-    ensures { OnOk result (out.new.items ≡ out.old.items
-        ++ (status_line reply.now.status ++ optional_line (codes "Location") reply.now.location)) }
-{
-    put_status(alloc, out, reply.status)?;
-    put_optional(out, "Location", &reply.location)
-}
-
-fn put_allow_and_media(out: &mut Vec<u8>, reply: &Reply) -> Result<(), AllocError>
-    ensures { OnOk result (out.new.items ≡ out.old.items
-        ++ (allow_line reply.now.allow ++ optional_line (codes "Content-Type") reply.now.media)) }
-{
-    put_allow(out, reply.allow)?;
-    put_optional(out, "Content-Type", &reply.media)
-}
-
-#[tactic(auto, unfolding(crate::specs::Wire::subject_of))]
-fn put_subject(alloc: Global, out: &mut Vec<u8>, reply: &Reply) -> Result<(), AllocError>
-    ensures { OnOk result (out.new.items ≡ out.old.items ++ subject_of reply.now) }
-{
-    put_status_and_location(alloc, out, reply)?;
-    put_allow_and_media(out, reply)
-}
-
-#[tactic(auto, unfolding(crate::specs::Wire::framing_of))]
-fn put_framing(alloc: Global, out: &mut Vec<u8>, body_length: usize) -> Result<(), AllocError>
-    ensures { OnOk result (out.new.items ≡ out.old.items ++ framing_of body_length) }
-{
-    put_line(
-        out,
-        "Content-Length",
-        format!(in alloc; "{body_length}")?.as_str(),
-    )?;
-    put_line(out, "Connection", "close")?;
-    put(out, "\r\n")
-}
-
+/// Puts the lines of a reply, in their order, and the empty line.
 #[tactic(auto, unfolding(crate::specs::Wire::head_of))]
 fn put_head(alloc: Global, out: &mut Vec<u8>, reply: &Reply) -> Result<(), AllocError>
     ensures { OnOk result (out.new.items ≡ out.old.items ++ head_of reply.now) }
 {
-    put_subject(alloc, out, reply)?;
-    put_framing(alloc, out, reply.body.as_slice().len())
+    let length = format!(in alloc; "{}", reply.body.as_slice().len())?;
+    put_status(alloc, out, reply.status)?;
+    put_optional(out, "Location", &reply.location)?;
+    put_allow(out, reply.allow)?;
+    put_optional(out, "Content-Type", &reply.media)?;
+    put_line(out, "Content-Length", length.as_str())?;
+    put_line(out, "Connection", "close")?;
+    put(out, "\r\n")
 }
 
 /// The bytes of a reply up to its body.

@@ -13,7 +13,7 @@ use Rattle.dh_seen.specs.SeenProject.{resolved}
 use Rattle.dh_world.specs.declared.caller.Caller.{Caller}
 use Rattle.dh_world.specs.World.{Text, text_cmp, Project, World}
 use Rattle.dh_world.specs.Visibility.{is_before, is_live, live_pass, holds, may_see, is_visible}
-use Rattle.dh_world.specs.Seen.{default_of, visible_versions, visible_pages, without_default, with_default, seen_project, seen, is_alias, is_own_pass, is_seen_name, veiled, alone, veil}
+use Rattle.dh_world.specs.Seen.{default_of, visible_versions, visible_pages, without_default, with_default, seen_project, seen, is_alias, shows_pass, is_seen_name, veiled, alone, veil}
 use Rattle.dh_world.proofs.MapLemmas.{tied_text, text_total, page_total, page_exact, held_exact}
 
 -- ---- maps of which a test of the keys keeps a part
@@ -51,7 +51,7 @@ module _ (p : Project) (c : Caller) (slug : Text) where
     where
       go : (t : Option Text) → live_pass (veiled p (by t)) (by t) ≡ live_pass p (by t)
       go None = refl
-      go (Some t) = ap (λ end. cond (option_map_or (is_before c.moment) end false) (Some t) None) (get_passing exact_bytes p.passes (is_own_pass (Some t)) t (own_pass t))
+      go (Some t) = ap (λ end. cond (option_map_or (is_before c.moment) end false) (Some t) None) (get_passing exact_bytes p.passes (shows_pass (Some t)) t (own_pass t))
 
   -- and it holds the visible versions that it held
   still_held : is_visible p c slug ≡ true → holds (veiled p c) (live_pass (veiled p c) c) slug ≡ holds p (live_pass p c) slug
@@ -63,7 +63,7 @@ module _ (p : Project) (c : Caller) (slug : Text) where
         where
           if_live : (live : Bool) → holds (veiled p (by (Some t))) (cond live (Some t) None) slug ≡ holds p (cond live (Some t) None) slug
           if_live false = refl
-          if_live true = ap is_some (get_passing held_exact p.held (λ key. is_own_pass (Some t) key.0 && is_visible p (by (Some t)) key.1) (t, slug) (ap (λ b. b && is_visible p (by (Some t)) slug) (own_pass t) ∙ e))
+          if_live true = ap is_some (get_passing held_exact p.held (λ key. shows_pass (Some t) key.0 && is_visible p (by (Some t)) key.1) (t, slug) (ap (λ b. b && is_visible p (by (Some t)) slug) (own_pass t) ∙ e))
 
   same_visible : is_visible (veiled p c) c slug ≡ is_visible p c slug
   same_visible = go (is_visible p c slug) refl

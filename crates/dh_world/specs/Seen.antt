@@ -58,9 +58,9 @@ abbrev pub seen : World → Option Text → Caller → Option SeenProject
 seen w host caller = option_map (λ p. seen_project p caller) (option_and_then (get w) host)
 
 -- the pass is the caller's own
-abbrev pub is_own_pass : Option Text → Text → Bool
-is_own_pass None x = false
-is_own_pass (Some pass) x = bytes_eq x pass
+abbrev pub shows_pass : Option Text → Text → Bool
+shows_pass None x = false
+shows_pass (Some pass) x = bytes_eq x pass
 
 -- An alias, or a name that stands for a version that the caller sees.
 abbrev pub is_seen_name : Project → Caller → Text → Bool
@@ -77,8 +77,8 @@ veiled p caller = record {
   versions = visible_versions p caller;
   pages = visible_pages p caller;
   defaults = filter (is_seen_name p caller) p.defaults;
-  passes = retain_keys p.passes (is_own_pass caller.pass);
-  held = retain_keys p.held (λ key. is_own_pass caller.pass key.0 && is_visible p caller key.1);
+  passes = retain_keys p.passes (shows_pass caller.pass);
+  held = retain_keys p.held (λ key. shows_pass caller.pass key.0 && is_visible p caller key.1);
   used = empty;
   rules = [];
   redirects = p.redirects;

@@ -14,6 +14,7 @@ pub mod pass_end;
 pub mod property;
 pub mod redirects;
 pub mod refusal;
+mod visibility;
 
 pub use answer::Answer;
 pub use caller::Caller;
@@ -31,3 +32,4 @@ pub use pass_end::PassEnd;
 pub use property::Property;
 pub use redirects::Redirects;
 pub use refusal::Refusal;
+pub use visibility::may_see;

@@ -62,7 +62,7 @@ fn read_whole<R: Source>(alloc: Global, source: &mut R) -> Result<Vec<u8>, Failu
         → IfSome (R.left source.old) (λ input. MOST_LIST_BYTES < length input)) }
 {
     let mut intake = Intake::new(alloc);
-    'pieces: loop {
+    loop {
         match intake.more(source) {
             Ok(true) => {}
             Ok(false) => return Ok(intake.into_bytes()),

@@ -9,7 +9,7 @@ mod usage;
 use dh_log::Leveled;
 use dh_ports::Port;
 use dh_running::seconds;
-use dh_telling::{Failure, Status, Streams, is_journal, tell, tell_usage};
+use dh_telling::{Failure, Status, Streams, is_journal, print_failure, print_usage};
 use own_store::name_store;
 use program::run_program;
 use sqlite_disk::Unknown;
@@ -36,18 +36,18 @@ fn words_of<R: Env + AllocGlobal>(rt: &R) -> io::Result<Vec<String>> {
 }
 
 /// Writes that the words were not read: memory is out, or one of them, or what DOCS_STORE names, is no text.
-fn tell_unread(rt: &HostRuntime, error: &io::Error) -> Status {
+fn print_unread(rt: &HostRuntime, error: &io::Error) -> Status {
     let mut errors = Leveled::new(Port::new(rt.stderr()), is_journal(rt));
     if error.kind() == ErrorKind::OutOfMemory {
-        return tell(&mut errors, Failure::Memory, None);
+        return print_failure(&mut errors, Failure::Memory, None);
     }
-    tell_usage(&mut errors, "a word, or DOCS_STORE, is not UTF-8")
+    print_usage(&mut errors, "a word, or DOCS_STORE, is not UTF-8")
 }
 
 fn main(rt: HostRuntime) -> ExitCode {
     let words = match words_of(&rt) {
         Ok(words) => words,
-        Err(error) => return ExitCode::from(tell_unread(&rt, &error).code()),
+        Err(error) => return ExitCode::from(print_unread(&rt, &error).code()),
     };
     let mut streams = Streams {
         source: Port::new(rt.stdin()),

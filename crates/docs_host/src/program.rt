@@ -13,7 +13,7 @@ ghost use Rattle.dh_telling.specs.Telling.{TellsEnd};
 ghost use Rattle.dh_telling.specs.Telling as telling;
 
 use crate::lists::{ListFile, order_in, read_list_file, refuse_record};
-use crate::usage::{tell_help, tell_mistake, tell_version};
+use crate::usage::{print_help, print_mistake, print_version};
 use dh_client::{run_by_server, run_import_by_server};
 use dh_files::{FileDesk, FileFault, close_desk, init_file, migrate_file, open_desk};
 use dh_lines::{DeskOrder, FileOrder, Line, LineFault, Order, ProgramOrder, line_of};
@@ -21,12 +21,12 @@ use dh_lists::ListFault;
 use dh_paths::Text;
 use dh_ports::{Sink, Source};
 use dh_running::{
-    Places, Served, bind_places, do_order, open_within, run_lines, serve_rest, tell_waiting,
+    Places, Served, bind_places, do_order, open_within, print_waiting, run_lines, serve_rest,
 };
 use dh_sample::{answer_sample, empty_desk};
 use dh_script::{Reason, is_bad_target};
 use dh_sockets::Sockets;
-use dh_telling::{Failure, Status, Streams, say, tell, tell_reason, tell_usage};
+use dh_telling::{Failure, Status, Streams, print_failure, print_reason, print_usage, say};
 use sqlite::Start;
 use std::alloc::{AllocError, Global};
 
@@ -128,7 +128,7 @@ fn serve_later<C: FnMut() -> u64, R: Source, W: Sink, E: Sink>(
     ensures tells { TellsSome E.broken E.held streams.old.errors streams.new.errors }
 {
     let seconds = if places.are_others() { 0 } else { wait };
-    tell_waiting(rt.alloc(), file, seconds, &mut streams.errors);
+    print_waiting(rt.alloc(), file, seconds, &mut streams.errors);
     match open_within(rt, file, seconds) {
         Ok(opened) => run_over_desk(rt, opened, Some(places), order, file, streams, clock, now),
         Err(fault) => {
@@ -189,7 +189,7 @@ fn run_over_file<S: Start, C: FnMut() -> u64, R: Source, W: Sink, E: Sink>(
 {
     if has_bad_target(rt.alloc(), order)? {
         say(&mut streams.sink, "bad target")?;
-        tell_reason(&mut streams.errors, Some(Reason::BadTarget));
+        print_reason(&mut streams.errors, Some(Reason::BadTarget));
         return Ok(Status::Refused);
     }
     match open_desk(rt, file, start) {
@@ -366,7 +366,7 @@ fn run_line<S: Start, C: FnMut() -> u64, R: Source, W: Sink, E: Sink>(
             clock,
             now,
         ),
-        (Order::Desk(_) | Order::Program(ProgramOrder::Serve { .. }), None) => Ok(tell_usage(
+        (Order::Desk(_) | Order::Program(ProgramOrder::Serve { .. }), None) => Ok(print_usage(
             &mut streams.errors,
             "which file has the records is missing: --store FILE",
         )),
@@ -396,7 +396,7 @@ fn wants_version(words: &[String]) -> bool
 }
 
 /// Does a line of the program, and tells the failure that ended it.
-fn run_and_tell<S: Start, C: FnMut() -> u64, R: Source, W: Sink, E: Sink>(
+fn run_and_print<S: Start, C: FnMut() -> u64, R: Source, W: Sink, E: Sink>(
     rt: &HostRuntime,
     start: S,
     words: &[String],
@@ -414,7 +414,7 @@ fn run_and_tell<S: Start, C: FnMut() -> u64, R: Source, W: Sink, E: Sink>(
 {
     match run_line(rt, start, words, line, streams, clock, now) {
         Ok(status) => status,
-        Err(failure) => tell(&mut streams.errors, failure, file_of(line, failure)),
+        Err(failure) => print_failure(&mut streams.errors, failure, file_of(line, failure)),
     }
 }
 
@@ -436,15 +436,15 @@ fn run_line_of_words<S: Start, C: FnMut() -> u64, R: Source, W: Sink, E: Sink>(
 {
     let line = match line_of(rt.alloc(), words) {
         Ok(line) => line,
-        Err(LineFault::Usage) => return tell_mistake(
+        Err(LineFault::Usage) => return print_mistake(
             rt.alloc(),
             words,
             &mut streams.sink,
             &mut streams.errors,
         ),
-        Err(LineFault::Memory) => return tell(&mut streams.errors, Failure::Memory, None),
+        Err(LineFault::Memory) => return print_failure(&mut streams.errors, Failure::Memory, None),
     };
-    run_and_tell(rt, start, words, &line, streams, clock, now)
+    run_and_print(rt, start, words, &line, streams, clock, now)
 }
 
 /// The file that is named beside a failure: the file of the list, or that of the records.
@@ -462,7 +462,7 @@ fn file_of(line: &Line, failure: Failure) -> Option<&str>
 }
 
 /// Writes the help that the words ask for, or does what they order.
-fn tell_help_or_run<S: Start, C: FnMut() -> u64, R: Source, W: Sink, E: Sink>(
+fn print_help_or_run<S: Start, C: FnMut() -> u64, R: Source, W: Sink, E: Sink>(
     rt: &HostRuntime,
     start: S,
     words: &[String],
@@ -480,13 +480,13 @@ fn tell_help_or_run<S: Start, C: FnMut() -> u64, R: Source, W: Sink, E: Sink>(
         streams.old.errors streams.new.errors result }
 {
     match helped(words) {
-        Some(names) => tell_help(rt.alloc(), names, &mut streams.sink, &mut streams.errors),
+        Some(names) => print_help(rt.alloc(), names, &mut streams.sink, &mut streams.errors),
         None => run_line_of_words(rt, start, words, streams, clock, now),
     }
 }
 
 /// Writes which version of the program this is, or the help that the words ask for, or does what they order.
-fn tell_version_or_run<S: Start, C: FnMut() -> u64, R: Source, W: Sink, E: Sink>(
+fn print_version_or_run<S: Start, C: FnMut() -> u64, R: Source, W: Sink, E: Sink>(
     rt: &HostRuntime,
     start: S,
     words: &[String],
@@ -502,9 +502,9 @@ fn tell_version_or_run<S: Start, C: FnMut() -> u64, R: Source, W: Sink, E: Sink>
         streams.old.errors streams.new.errors result }
 {
     if wants_version(words) {
-        return tell_version(&mut streams.sink, &mut streams.errors);
+        return print_version(&mut streams.sink, &mut streams.errors);
     }
-    tell_help_or_run(rt, start, words, streams, clock, now)
+    print_help_or_run(rt, start, words, streams, clock, now)
 }
 
 /// Runs the whole program over its words, without its own name. Its streams are given, and `start` stands for what the file of
@@ -530,5 +530,5 @@ pub fn run_program<S: Start, C: FnMut() -> u64, R: Source, W: Sink, E: Sink>(
         (TellsEnd E.broken E.held (line_run (map string_bytes words.now))
         streams.old.errors streams.new.errors) result }
 {
-    tell_version_or_run(rt, start, words, streams, clock, now).code()
+    print_version_or_run(rt, start, words, streams, clock, now).code()
 }

@@ -11,7 +11,7 @@ use clap::{ArgMatches, Error};
 use dh_lines::{docs_command, reads};
 use dh_listings::{lines_steer_nothing, shown};
 use dh_ports::{Sink, put_all};
-use dh_telling::{Failure, Status, put, say, tell, tell_usage};
+use dh_telling::{Failure, Status, print_failure, print_usage, put, say};
 use std::alloc::{AllocError, Global};
 
 /// The words that may have only some values, and these values.
@@ -40,7 +40,7 @@ const LIMITED: [(&str, &str); 12] = [
 ];
 
 /// Tells what a limited word may be, where it has another value.
-fn tell_limit<E: Sink>(alloc: Global, id: &str, value: &str, values: &str, errors: &mut E) {
+fn print_limit<E: Sink>(alloc: Global, id: &str, value: &str, values: &str, errors: &mut E) {
     if !matches!(reads(alloc, id, value), Ok(false)) {
         return;
     }
@@ -54,30 +54,30 @@ fn tell_limit<E: Sink>(alloc: Global, id: &str, value: &str, values: &str, error
 }
 
 /// Tells of each limited word with another value what it may be.
-fn tell_limits<E: Sink>(alloc: Global, matches: &ArgMatches<'_>, errors: &mut E) {
+fn print_limits<E: Sink>(alloc: Global, matches: &ArgMatches<'_>, errors: &mut E) {
     for (id, values) in &LIMITED {
         if let Some(value) = matches.get_str(*id) {
-            tell_limit(alloc, *id, value, *values, errors);
+            print_limit(alloc, *id, value, *values, errors);
         }
     }
 }
 
 /// Tells what is wrong with words that `clap` takes and that are no line: a limited word has a value that it may not have.
-fn tell_values<E: Sink>(alloc: Global, matches: &ArgMatches<'_>, errors: &mut E) -> Status
+fn print_values<E: Sink>(alloc: Global, matches: &ArgMatches<'_>, errors: &mut E) -> Status
     ensures { result ≡ Status.Usage }
 {
     match matches.subcommand() {
         Some((name, words)) => {
             put(errors, "docs_host: a word of ");
             put(errors, name);
-            put(errors, " is none that may stand there\n");
-            tell_limits(alloc, words, errors);
+            put(errors, " may not stand there\n");
+            print_limits(alloc, words, errors);
             put(errors, "For more information, try 'docs_host help ");
             put(errors, name);
             put(errors, "'\n");
             Status::Usage
         }
-        None => tell_usage(errors, "the name of a command is missing"),
+        None => print_usage(errors, "the name of a command is missing"),
     }
 }
 
@@ -92,16 +92,16 @@ fn with_program_name(alloc: Global, text: String) -> Result<String, AllocError> 
 }
 
 /// Writes a text of `clap` on a mistake, which may have words as they were given; of words that steer a terminal no more than that.
-fn tell_text<E: Sink>(text: &str, errors: &mut E) {
+fn print_text<E: Sink>(text: &str, errors: &mut E) {
     if lines_steer_nothing(text) {
         put(errors, text);
     } else {
-        tell_usage(errors, "what is wrong with the words steers a terminal");
+        print_usage(errors, "what is wrong with the words steers a terminal");
     }
 }
 
 /// Writes the help that was asked for to standard output, and a mistake to standard error.
-fn tell_error<W: Sink, E: Sink>(
+fn print_error<W: Sink, E: Sink>(
     alloc: Global,
     error: &Error,
     sink: &mut W,
@@ -117,7 +117,7 @@ fn tell_error<W: Sink, E: Sink>(
     }
     let text = with_program_name(alloc, format!(in alloc; "{error}")?)?;
     if kind != ErrorKind::DisplayHelp {
-        tell_text(text.as_str(), errors);
+        print_text(text.as_str(), errors);
         return Ok(Status::Usage);
     }
     match put_all(sink, text.as_bytes()) {
@@ -127,7 +127,7 @@ fn tell_error<W: Sink, E: Sink>(
 }
 
 /// Writes what `clap` tells of the words.
-fn tell_words<W: Sink, E: Sink>(
+fn print_words<W: Sink, E: Sink>(
     alloc: Global,
     words: &[String],
     sink: &mut W,
@@ -139,8 +139,8 @@ fn tell_words<W: Sink, E: Sink>(
 {
     let mut program = docs_command(alloc)?;
     match program.try_get_matches_from_mut(words) {
-        Ok(matches) => Ok(tell_values(alloc, &matches, errors)),
-        Err(error) => tell_error(alloc, &error, sink, errors),
+        Ok(matches) => Ok(print_values(alloc, &matches, errors)),
+        Err(error) => print_error(alloc, &error, sink, errors),
     }
 }
 
@@ -170,7 +170,7 @@ fn write_help<W: Sink, E: Sink>(
     ensures silent { OnErr result (errors.new ≡ errors.old) }
 {
     let words = help_words(alloc, names)?;
-    tell_words(alloc, words.as_slice(), sink, errors)
+    print_words(alloc, words.as_slice(), sink, errors)
 }
 
 /// The status of a run that writes help, and tells the failure that ended it.
@@ -181,12 +181,12 @@ fn ended<E: Sink>(run: Result<Status, Failure>, errors: &mut E) -> Status
 {
     match run {
         Ok(status) => status,
-        Err(failure) => tell(errors, failure, None),
+        Err(failure) => print_failure(errors, failure, None),
     }
 }
 
 /// Gives help on the command of this name, or on the program where none is named.
-pub fn tell_help<W: Sink, E: Sink>(
+pub fn print_help<W: Sink, E: Sink>(
     alloc: Global,
     names: &[String],
     sink: &mut W,
@@ -201,7 +201,7 @@ pub fn tell_help<W: Sink, E: Sink>(
 }
 
 /// Tells what is wrong with words that are no line, or gives the help that they ask for.
-pub fn tell_mistake<W: Sink, E: Sink>(
+pub fn print_mistake<W: Sink, E: Sink>(
     alloc: Global,
     words: &[String],
     sink: &mut W,
@@ -211,7 +211,7 @@ pub fn tell_mistake<W: Sink, E: Sink>(
     ensures ends { EndsHelp (map string_bytes words.now) result }
     ensures told { TellsEnd E.broken E.held None errors.old errors.new result }
 {
-    let told = tell_words(alloc, words, sink, errors);
+    let told = print_words(alloc, words, sink, errors);
     ended(told, errors)
 }
 
@@ -225,7 +225,7 @@ fn write_version<W: Sink>(sink: &mut W) -> Result<Status, Failure>
 }
 
 /// Says which version of the program this is.
-pub fn tell_version<W: Sink, E: Sink>(sink: &mut W, errors: &mut E) -> Status
+pub fn print_version<W: Sink, E: Sink>(sink: &mut W, errors: &mut E) -> Status
     requires { W.broken sink.old ≡ false }
     ensures ends { EndsVersion (W.held sink.old) (W.held sink.new) result }
     ensures told { TellsEnd E.broken E.held None errors.old errors.new result }

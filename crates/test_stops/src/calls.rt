@@ -20,13 +20,7 @@ fn words_of(alloc: Global, line: &str) -> Result<Vec<String>, AllocError> {
 /// The read of a target, if it is one.
 fn read_of(alloc: Global, target: &Text) -> Option<Read> {
     match Target::read(alloc, target.as_str().as_bytes()) {
-        Ok(
-            Target {
-                host: _,
-                path,
-                query,
-            },
-        ) => Some(Read { path, query }),
+        Ok(target) => Some(Read::of(target)),
         Err(_) => None,
     }
 }

@@ -1,7 +1,7 @@
 //! The lists of a project: its languages, defaults, passes, grants, rules and redirects. A language is added in `projects.rt`, and
 //! defaults are set in `defaults.rt`.
 
-ghost use Rattle.std.specs.Prelude.{◌<◌, ◌^◌, find, refl};
+ghost use Rattle.std.specs.Prelude.{find, refl};
 ghost use Rattle.std.specs.Str.{bytes_eq};
 ghost use Rattle.dh_schema.specs.Calling.{IsWithin, ReadsValue, ChangesListsInside};
 ghost use Rattle.dh_records.specs.Changes as change;
@@ -14,7 +14,7 @@ use dh_paths::{HostName, Lang, Slug};
 use dh_ports::{Fault, Found};
 use dh_records::{
     DefaultRow, GrantRow, LangRow, PassRow, RedirectRow, RuleRow, action_number, is_tag,
-    kind_number, show_number,
+    kind_number, show_number, show_status,
 };
 use dh_redirects::Redirect;
 use dh_rules::Rule;
@@ -180,13 +180,6 @@ impl Placed for RuleRow {
     ghost is_item = { λ r. refl };
 
     ghost ordered = { λ l order. order.rules };
-}
-
-/// States that a status fits 16 bits, as its type says; does nothing.
-fn show_status(status: u16)
-    ensures { status < 2 ^ 16 }
-{
-    let _ = status;
 }
 
 impl Listed for RedirectRow {

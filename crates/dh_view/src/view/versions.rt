@@ -15,14 +15,9 @@ use dh_ports::{Fault, Found};
 use dh_records::{GrantRow, VersionRow};
 use dh_tables::Tables;
 use dh_versions::Version;
+use dh_world::may_see;
 use sqlite::Alter;
 use std::alloc::{AllocError, Global};
-
-fn may_see(version: &Version, held: bool) -> bool
-    ensures { result ≡ visibility.may_see version.now held }
-{
-    version.active && (!version.private || held)
-}
 
 fn opens(grants: &[GrantRow], slug: &Slug) -> bool
     ensures { result ≡ view.opens grants.now slug.now }
@@ -48,7 +43,7 @@ fn is_visible(row: &VersionRow, grants: &[GrantRow]) -> bool
     ensures { result ≡ is_shown grants.now row.now }
 {
     if !row.version.private {
-        return row.version.active;
+        return may_see(&row.version, false);
     }
     may_see(&row.version, opens(grants, &row.version.slug))
 }
@@ -86,7 +81,7 @@ impl HostView<'_> {
             (held_in l self.now.host.now self.now.class.now version.now.slug)) }
     {
         if !version.private {
-            return Ok(version.active);
+            return Ok(may_see(version, false));
         }
         let held = self.is_held(tables, &version.slug)?;
         Ok(may_see(version, held))

@@ -1,5 +1,5 @@
 use Rattle.std.proofs.Common.{◌∙◌, inl, inr}
-use Rattle.dh_opening.specs.declared.opening.Found.{Found}
+use Rattle.dh_opening.specs.declared.opening.FoundTables.{FoundTables}
 use Rattle.dh_opening.specs.Migrating.{IsBehind, IsOld}
 use Rattle.dh_opening.specs.Opening.{IsOurs}
 use Rattle.dh_opening.proofs.BringLemmas.{brings_as, handed_brings, never_old, ours_then, rests_then, then_brings}
@@ -9,7 +9,7 @@ pub returns-in_err-check_database : goal.returns-in_err-check_database
 returns-in_err-check_database g c = record {
   migrates = record {
     brings = handed_brings (λ db. ¬ IsOurs db × ¬ IsOld db) c.from_residual.result c.in_err-check_database.field-0.0 c.from_residual.ensures.1 (λ none. (none.0, λ old. none.1 old.number)) c.in_err-check_database.ensures.opens;
-    current = never_old Found c.from_residual.result c.in_err-check_database.field-0.0 c.from_residual.ensures.1 c.in_err-check_database.ensures.opens.current;
+    current = never_old FoundTables c.from_residual.result c.in_err-check_database.field-0.0 c.from_residual.ensures.1 c.in_err-check_database.ensures.opens.current;
   };
 }
 

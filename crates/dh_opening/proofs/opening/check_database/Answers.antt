@@ -1,6 +1,6 @@
 use Rattle.std.proofs.Common.{Ok, Err, subst}
 use Rattle.sqlite.specs.Held.{state}
-use Rattle.dh_opening.specs.declared.opening.Found.TheVariants.{Ours}
+use Rattle.dh_opening.specs.declared.opening.FoundTables.TheVariants.{Ours}
 use Rattle.dh_opening.specs.Opening.{IsNumbered}
 use Rattle.dh_opening.proofs.Looks.{handed, opens_both, then_ok}
 use Rattle.dh_opening.proofs.Spelling.{two_not_one}

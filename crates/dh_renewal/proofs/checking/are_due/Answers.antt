@@ -6,7 +6,7 @@ use Rattle.dh_records.specs.Lists.{Lists}
 use Rattle.dh_tables.specs.Going.{records}
 use Rattle.dh_renewal.specs.Standing.{names_at}
 use Rattle.dh_renewal.proofs.StandsLemmas.{due_before, due_last}
-use Rattle.dh_renewal.proofs.Together.{looks_on}
+use Rattle.dh_renewal.specs.Looks.{looks_on}
 use Rattle.dh_renewal.proofs.checking.are_due.Goals as goal
 
 pub loop-project-preserved : goal.loop-project-preserved

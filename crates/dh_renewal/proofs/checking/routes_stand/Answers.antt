@@ -5,7 +5,7 @@ use Rattle.dh_records.specs.Lists.{Lists}
 use Rattle.dh_tables.specs.Going.{records}
 use Rattle.dh_renewal.specs.Standing.{RoutesStand}
 use Rattle.dh_renewal.proofs.StandsLemmas.{all_taken, one_more_taken}
-use Rattle.dh_renewal.proofs.Together.{looks_on}
+use Rattle.dh_renewal.specs.Looks.{looks_on}
 use Rattle.dh_renewal.proofs.checking.routes_stand.Goals as goal
 
 pub loop-project-preserved : goal.loop-project-preserved

@@ -9,7 +9,8 @@ use Rattle.dh_tables.specs.Going.{records}
 use Rattle.dh_derived.specs.Rightness.{AreRight}
 use Rattle.dh_renewal.specs.Standing.{AreAliasesDue, RoutesStand}
 use Rattle.dh_renewal.proofs.StandsLemmas.{stand_right}
-use Rattle.dh_renewal.proofs.Together.{asks_then, looks_on}
+use Rattle.dh_renewal.specs.Looks.{looks_on}
+use Rattle.dh_renewal.proofs.Together.{asks_then}
 use Rattle.dh_renewal.proofs.checking.stand_beside.Goals as goal
 
 pub returns-clause-asks : goal.returns-clause-asks

@@ -8,7 +8,8 @@ use Rattle.dh_tables.specs.Going.{records}
 use Rattle.dh_renewal.specs.Finding.{IsStableKept}
 use Rattle.dh_renewal.specs.Renewing.{IsOfGrants, OfBranch}
 use Rattle.dh_renewal.proofs.RenewingLemmas.{no_pass, pass_names}
-use Rattle.dh_renewal.proofs.Together.{asks_then, looks_on}
+use Rattle.dh_renewal.specs.Looks.{looks_on}
+use Rattle.dh_renewal.proofs.Together.{asks_then}
 use Rattle.dh_renewal.proofs.names.names_of_pass.Goals as goal
 
 pub returns-then-is_none-clause-value : goal.returns-then-is_none-clause-value

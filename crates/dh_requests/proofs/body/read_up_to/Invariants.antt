@@ -3,8 +3,8 @@ use Rattle.dh_ports.specs.Ports.{CountsUpTo, CountsAtLeast}
 use Rattle.dh_requests.specs.Takes.{AddsBytes, FillsUpTo}
 use Rattle.dh_requests.proofs.body.read_up_to.Given as goal
 
-abbrev pub invariant-pieces : goal.invariant-pieces
-invariant-pieces g l = record {
+abbrev pub invariant-loop-intake : goal.invariant-loop-intake
+invariant-loop-intake g l = record {
   taken : AddsBytes (g.R.Source.left l.fn.source) (g.R.Source.left l.source) l.fn.intake.bytes.items l.intake.bytes.items;
   unread : l.count ≤ length l.fn.intake.bytes.items → l.source ≡ l.fn.source;
   needed : FillsUpTo (length l.fn.intake.bytes.items) l.count (g.R.Source.left l.fn.source) (g.R.Source.left l.source) 4096;
@@ -15,5 +15,5 @@ invariant-pieces g l = record {
   fine : g.R.Source.broken l.source ≡ false;
 }
 
-abbrev pub decreases-pieces : goal.decreases-pieces
-decreases-pieces g l = l.count - length l.intake.bytes.items
+abbrev pub decreases-loop-intake : goal.decreases-loop-intake
+decreases-loop-intake g l = l.count - length l.intake.bytes.items

@@ -6,8 +6,8 @@ use Rattle.dh_requests.specs.Takes.{TookWhile}
 use Rattle.dh_requests.specs.Scan.{ScansTo, at_first}
 use Rattle.dh_requests.proofs.head_end.read_head.Given as goal
 
-abbrev pub invariant-pieces : goal.invariant-pieces
-invariant-pieces g l = record {
+abbrev pub invariant-loop : goal.invariant-loop
+invariant-loop g l = record {
   seen : l.seen ≡ min (length l.intake.bytes.items) 16384;
   taken : Consumes (g.R.Source.left l.fn.source) (g.R.Source.left l.source) l.intake.bytes.items;
   needed : TookWhile OpenHead (g.R.Source.left l.fn.source) (g.R.Source.left l.source) 4096;
@@ -20,5 +20,5 @@ invariant-pieces g l = record {
   scanned : ScansTo at_first (take l.seen l.intake.bytes.items) l.seen l.scan;
 }
 
-abbrev pub decreases-pieces : goal.decreases-pieces
-decreases-pieces g l = 16384 - l.seen
+abbrev pub decreases-loop : goal.decreases-loop
+decreases-loop g l = 16384 - l.seen

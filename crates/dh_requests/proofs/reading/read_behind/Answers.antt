@@ -1,7 +1,7 @@
 use Rattle.std.proofs.Common.{take, ap, sym, subst, ◌∙◌}
 use Rattle.dh_ports.specs.Reading.{reader_failed}
 use Rattle.dh_requests.specs.HeadEnd.{IsHeadText}
-use Rattle.dh_requests.specs.declared.asked.Asked.TheVariants.{Command}
+use Rattle.dh_requests.specs.declared.wanted.Wanted.TheVariants.{Command}
 use Rattle.dh_requests.specs.Request.{HeadAsksFor}
 use Rattle.dh_requests.specs.Heard.{HearsHead}
 use Rattle.dh_requests.proofs.Hearing.{command_heard, weaker, whole_heard}

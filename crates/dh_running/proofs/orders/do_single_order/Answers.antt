@@ -38,7 +38,7 @@ returns-clause-runs g c =
       refused = c.in_ok-printed.printed.refused;
       performed = it;
       written = search rules;
-      told = c.status_told.ensures.status;
+      told = c.status_of.ensures.status;
     })
 
 pub returns-clause-may : goal.returns-clause-may

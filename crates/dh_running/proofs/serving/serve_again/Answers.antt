@@ -10,15 +10,15 @@ returns-else-is_none-clause-few g c =
 
 pub returns-in_err-closed-clause-tells : goal.returns-in_err-closed-clause-tells
 returns-in_err-closed-clause-tells g c =
-    some_more g.E.Sink.broken g.E.Sink.held c.args.errors.now c.tell_again.new.errors c.tell_served.new.errors
-    c.tell_again.ensures c.tell_served.ensures
+    some_more g.E.Sink.broken g.E.Sink.held c.args.errors.now c.print_again.new.errors c.print_served.new.errors
+    c.print_again.ensures c.print_served.ensures
 
 pub returns-in_ok-closed-clause-tells : goal.returns-in_ok-closed-clause-tells
 returns-in_ok-closed-clause-tells g c =
-    some_more g.E.Sink.broken g.E.Sink.held c.args.errors.now c.tell_again.new.errors c.tell_served.new.errors
-    c.tell_again.ensures c.tell_served.ensures
+    some_more g.E.Sink.broken g.E.Sink.held c.args.errors.now c.print_again.new.errors c.print_served.new.errors
+    c.print_again.ensures c.print_served.ensures
 
 pub returns-else-is_none-clause-tells : goal.returns-else-is_none-clause-tells
 returns-else-is_none-clause-tells g c =
-    some_more g.E.Sink.broken g.E.Sink.held c.args.errors.now c.tell_again.new.errors c.tell_served.new.errors
-    c.tell_again.ensures c.tell_served.ensures
+    some_more g.E.Sink.broken g.E.Sink.held c.args.errors.now c.print_again.new.errors c.print_served.new.errors
+    c.print_again.ensures c.print_served.ensures

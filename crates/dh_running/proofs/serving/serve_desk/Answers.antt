@@ -29,14 +29,14 @@ returns-clause-clocked g c =
 pub returns-then-is_closed-clause-tells : goal.returns-then-is_closed-clause-tells
 returns-then-is_closed-clause-tells g c =
     told_around g.L.Write.contents c.args.file.now c.serve_on-served.new.desk.closed true (sym c.is_closed.ensures ∙ c.if-is_closed.true)
-    c.args.log.now c.tell_server.new.log c.serve_on-served.new.log c.tell_server-then-is_closed.new.log
+    c.args.log.now c.log_server.new.log c.serve_on-served.new.log c.log_server-then-is_closed.new.log
     c.serve_on-served.result.asked (c.args.count - (c.args.count - c.serve_on-served.result.asked)) (omega (arith, c.serve_on-served.ensures.few))
-    c.tell_server.ensures c.serve_on-served.ensures.tells c.tell_server-then-is_closed.ensures
+    c.log_server.ensures c.serve_on-served.ensures.tells c.log_server-then-is_closed.ensures
 
 pub returns-clause-tells : goal.returns-clause-tells
 returns-clause-tells g c =
     told_around g.L.Write.contents c.args.file.now c.serve_on-served.new.desk.closed false (sym c.is_closed.ensures ∙ c.if-is_closed.false)
-    c.args.log.now c.tell_server.new.log c.serve_on-served.new.log c.tell_server-2.new.log
+    c.args.log.now c.log_server.new.log c.serve_on-served.new.log c.log_server-2.new.log
     c.serve_on-served.result.asked (c.args.count - 0)
     (let whole = c.serve_on-served.ensures.all (sym c.is_closed.ensures ∙ c.if-is_closed.false) in omega (arith, whole))
-    c.tell_server.ensures c.serve_on-served.ensures.tells c.tell_server-2.ensures
+    c.log_server.ensures c.serve_on-served.ensures.tells c.log_server-2.ensures

@@ -3,8 +3,8 @@ use Rattle.dh_server.specs.Serving.{AsksClock, CountsExactly}
 use Rattle.dh_server.specs.Telling.{TellsSome}
 use Rattle.dh_running.proofs.serving.serve_left.Given as goal
 
-abbrev pub invariant-openings : goal.invariant-openings
-invariant-openings g l = record {
+abbrev pub invariant-loop : goal.invariant-loop
+invariant-loop g l = record {
   callable : goal.C-IsAlwaysCallable g l.clock;
   asks : CountsExactly (g.N.Listen.asked l.fn.listening) (g.N.Listen.asked l.listening) (l.count - l.left);
   clocked : AsksClock (goal.C-step g) l.fn.clock l.clock (l.count - l.left);

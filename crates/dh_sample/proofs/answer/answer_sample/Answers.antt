@@ -10,12 +10,12 @@ use Rattle.dh_sample.proofs.answer.answer_sample.Goals as goal
 
 pub returns-in-Ok-clause-writes : goal.returns-in-Ok-clause-writes
 returns-in-Ok-clause-writes g c =
-    sample_answered c.args.now (world over_memory c.in-Ok.desk) (world over_memory c.answer.new.desk) (g.R.Source.left c.args.source.now) _ _ c.answer.result _ c.told.ensures.told c.in-Ok.ensures
+    sample_answered c.args.now (world over_memory c.in-Ok.desk) (world over_memory c.answer.new.desk) (g.R.Source.left c.args.source.now) _ _ c.answer.result _ c.as_sample.ensures.told c.in-Ok.ensures
     (goes_at c.answer.ensures.answers (memory_is_clean c.answer.new.desk.tables, refl))
 
 pub returns-in-Err-OutOfMemory-clause-writes : goal.returns-in-Err-OutOfMemory-clause-writes
 returns-in-Err-OutOfMemory-clause-writes g c =
-    unmade_answered c.args.now (g.R.Source.left c.args.source.now) _ _ c.answer_unavailable.result _ c.told-in-Err-OutOfMemory.ensures.told c.answer_unavailable.ensures.writes
+    unmade_answered c.args.now (g.R.Source.left c.args.source.now) _ _ c.answer_unavailable.result _ c.as_sample-in-Err-OutOfMemory.ensures.told c.answer_unavailable.ensures.writes
 
 pub returns-in-Err-OutOfMemory-clause-needed : goal.returns-in-Err-OutOfMemory-clause-needed
 returns-in-Err-OutOfMemory-clause-needed g c =

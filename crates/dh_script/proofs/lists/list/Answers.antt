@@ -9,14 +9,14 @@ returns g c = record {
       WorldGoesBy-weaker c.list-answer.ensures.goes
       (λ u v listed. (
         listed.0,
-        list_told (λ p. string_bytes p.text) (λ p. p.refused) c.args.now u c.args.word.now c.list-answer.result c.told_list.result listed.1 c.told_list.ensures.tells,
+        list_told (λ p. string_bytes p.text) (λ p. p.refused) c.args.now u c.args.word.now c.list-answer.result c.printed_list.result listed.1 c.printed_list.ensures.tells,
       ));
   why =
       WorldGoesBy-weaker c.list-answer.ensures.goes
       (λ u v listed. (
         listed.0,
-        list_for (λ p. string_bytes p.text) (λ p. p.reason) c.args.now u c.args.word.now c.list-answer.result c.told_list.result listed.1 c.told_list.ensures.why,
+        list_for (λ p. string_bytes p.text) (λ p. p.reason) c.args.now u c.args.word.now c.list-answer.result c.printed_list.result listed.1 c.printed_list.ensures.why,
       ));
-  explains = c.told_list.ensures.explains;
-  told = blamed_list g.S.Store c.args.desk.now c.list-answer.new.self (λ p. p.reason) c.told_list.result c.list-answer.result c.list-answer.ensures.told c.told_list.ensures.reason;
+  explains = c.printed_list.ensures.explains;
+  told = blamed_list g.S.Store c.args.desk.now c.list-answer.new.self (λ p. p.reason) c.printed_list.result c.list-answer.result c.list-answer.ensures.told c.printed_list.ensures.reason;
 }

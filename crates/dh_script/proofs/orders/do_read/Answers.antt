@@ -9,17 +9,17 @@ returns g c = record {
       WorldGoesBy-weaker c.read.ensures.goes
       (λ u v read. (
         read.0,
-        got (λ p. string_bytes p.text) (λ p. p.refused) u c.as_str.result.now c.args.host.now _ c.args.pass.now c.args.moment c.args.target c.read.result c.read_out-outcome.result c.told.result
-            read.1 c.as_str.ensures c.pass_text.ensures c.read_out-outcome.ensures c.told.ensures.tells,
+        got (λ p. string_bytes p.text) (λ p. p.refused) u c.as_str.result.now c.args.host.now _ c.args.pass.now c.args.moment c.args.target c.of-asked.result c.read.result c.read_out-outcome.result c.printed_outcome.result
+            read.1 c.of-asked.ensures c.as_str.ensures c.pass_text.ensures c.read_out-outcome.ensures c.printed_outcome.ensures.tells,
       ));
   why =
       WorldGoesBy-weaker c.read.ensures.goes
       (λ u v read. (
         read.0,
-        got_for (λ p. string_bytes p.text) (λ p. p.reason) u c.as_str.result.now c.args.host.now _ c.args.pass.now c.args.moment c.args.target c.read.result c.read_out-outcome.result c.told.result
-            read.1 c.as_str.ensures c.pass_text.ensures c.read_out-outcome.ensures c.told.ensures.why,
+        got_for (λ p. string_bytes p.text) (λ p. p.reason) u c.as_str.result.now c.args.host.now _ c.args.pass.now c.args.moment c.args.target c.of-asked.result c.read.result c.read_out-outcome.result c.printed_outcome.result
+            read.1 c.of-asked.ensures c.as_str.ensures c.pass_text.ensures c.read_out-outcome.ensures c.printed_outcome.ensures.why,
       ));
-  explains = c.told.ensures.explains;
-  told = blamed_read g.S.Store c.args.desk.now c.read.new.self (λ p. p.reason) c.told.result c.read.result c.read_out-outcome.result c.read_out-outcome.ensures
-      c.read.ensures.told c.told.ensures.reason;
+  explains = c.printed_outcome.ensures.explains;
+  told = blamed_read g.S.Store c.args.desk.now c.read.new.self (λ p. p.reason) c.printed_outcome.result c.read.result c.read_out-outcome.result c.read_out-outcome.ensures
+      c.read.ensures.told c.printed_outcome.ensures.reason;
 }

@@ -14,14 +14,14 @@ returns-in-Desk-Act-clause-performs g c =
     let is : c.args.order.now ≡ Desk (desk.Act c.in-Desk-Act.command) = search rules in
     WorldGoesBy-weaker c.apply.ensures.goes
     (λ u v step.
-    act_told (λ p. string_bytes p.text) (λ p. p.refused) c.args.now u v _ c.args.order.now c.apply.result c.commanded.result c.told.result step c.commanded.ensures is c.told.ensures.tells)
+    act_told (λ p. string_bytes p.text) (λ p. p.refused) c.args.now u v _ c.args.order.now c.apply.result c.commanded.result c.printed_outcome.result step c.commanded.ensures is c.printed_outcome.ensures.tells)
 
 pub returns-in-Desk-Act-clause-why : goal.returns-in-Desk-Act-clause-why
 returns-in-Desk-Act-clause-why g c =
     let is : c.args.order.now ≡ Desk (desk.Act c.in-Desk-Act.command) = search rules in
     WorldGoesBy-weaker c.apply.ensures.goes
     (λ u v step.
-    act_for (λ p. string_bytes p.text) (λ p. p.reason) c.args.now u v _ c.args.order.now c.apply.result c.commanded.result c.told.result step c.commanded.ensures is c.told.ensures.why)
+    act_for (λ p. string_bytes p.text) (λ p. p.reason) c.args.now u v _ c.args.order.now c.apply.result c.commanded.result c.printed_outcome.result step c.commanded.ensures is c.printed_outcome.ensures.why)
 
 pub returns-in-Desk-Act-clause-may : goal.returns-in-Desk-Act-clause-may
 returns-in-Desk-Act-clause-may g c =
@@ -29,13 +29,13 @@ returns-in-Desk-Act-clause-may g c =
     let outcome = outcome_of c.apply.result in
     WorldGoesBy-weaker c.apply.ensures.goes
     (λ u v step.
-    on_err c.told.result
+    on_err c.printed_outcome.result
     (subst (λ (o : Order). MayDoOrder c.args.now u o v) (sym is)
     (inr (text_of_outcome outcome, (is_refusal outcome, (c.apply.result, step, (refl, refl)))))))
 
 pub returns-in-Desk-Act-clause-told : goal.returns-in-Desk-Act-clause-told
 returns-in-Desk-Act-clause-told g c =
-    blamed_act g.S.Store c.args.desk.now c.apply.new.self (λ p. p.reason) c.told.result c.apply.result c.commanded.result c.commanded.ensures c.told.ensures.reason
+    blamed_act g.S.Store c.args.desk.now c.apply.new.self (λ p. p.reason) c.printed_outcome.result c.apply.result c.commanded.result c.commanded.ensures c.printed_outcome.ensures.reason
 
 pub returns-in-Desk-Get-clause-performs : goal.returns-in-Desk-Get-clause-performs
 returns-in-Desk-Get-clause-performs g c = WorldGoesBy-weaker c.do_get.ensures.gets (λ u v it. search (rules, it))

@@ -3,8 +3,8 @@ use Rattle.std.specs.Io.KnownBytes.{Consumes}
 use Rattle.dh_ports.specs.Ports.{CountsUpTo, CountsAtLeast}
 use Rattle.dh_script.proofs.reading.read_script.Given as goal
 
-abbrev pub invariant-pieces : goal.invariant-pieces
-invariant-pieces g l = record {
+abbrev pub invariant-loop : goal.invariant-loop
+invariant-loop g l = record {
   taken : Consumes (g.R.Source.left l.fn.source) (g.R.Source.left l.source) l.intake.bytes.items;
   asked : CountsUpTo (g.R.Source.fills l.fn.source) (g.R.Source.fills l.source) l.intake.reads;
   counted : CountsAtLeast (g.R.Source.fills l.fn.source) (g.R.Source.fills l.source) l.intake.reads;
@@ -13,5 +13,5 @@ invariant-pieces g l = record {
   fine : g.R.Source.broken l.source ≡ false;
 }
 
-abbrev pub decreases-pieces : goal.decreases-pieces
-decreases-pieces g l = 100000 - l.intake.reads
+abbrev pub decreases-loop : goal.decreases-loop
+decreases-loop g l = 100000 - l.intake.reads

@@ -5,8 +5,8 @@ use Rattle.docs_host.proofs.program.serve_later.Goals as goal
 
 pub returns-in-Ok-clause-tells : goal.returns-in-Ok-clause-tells
 returns-in-Ok-clause-tells g c =
-    some_more g.E.Sink.broken g.E.Sink.held c.args.streams.now.errors c.tell_waiting.new.errors c.run_over_desk.new.streams.errors
-    c.tell_waiting.ensures c.run_over_desk.ensures.tells
+    some_more g.E.Sink.broken g.E.Sink.held c.args.streams.now.errors c.print_waiting.new.errors c.run_over_desk.new.streams.errors
+    c.print_waiting.ensures c.run_over_desk.ensures.tells
 
 pub returns-in-Err-clause-ends : goal.returns-in-Err-clause-ends
 returns-in-Err-clause-ends g c = (faulty_order c.args.order.now, refl)

@@ -7,5 +7,5 @@ use Rattle.docs_host.proofs.usage.ended.Goals as goal
 
 pub returns-in-Err-clause-told : goal.returns-in-Err-clause-told
 returns-in-Err-clause-told g c =
-    told_alone g.E.Sink.broken g.E.Sink.held None c.args.errors.now c.tell.new.errors c.in-Err.failure
-    c.tell.result (subst (Ended (λ s. ⊤) is_of_output) c.in-Err.is c.requires).1 c.tell.ensures.status c.tell.ensures.told
+    told_alone g.E.Sink.broken g.E.Sink.held None c.args.errors.now c.print_failure.new.errors c.in-Err.failure
+    c.print_failure.result (subst (Ended (λ s. ⊤) is_of_output) c.in-Err.is c.requires).1 c.print_failure.ensures.status c.print_failure.ensures.told
