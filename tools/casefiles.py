@@ -1,5 +1,5 @@
 """Reads and runs the cases of tests/ and examples/: an input, and what the program has to do with it.
-docs/TESTS.md says how they are written.
+docs/contributing/TESTS.md says how they are written.
 
 usage: python3 tools/casefiles.py FILE
 

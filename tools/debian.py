@@ -356,8 +356,8 @@ def tree_of(files, version, seconds, program):
     put(f"{DOC}/changelog.gz", packed(changelog(ours("control").decode(), debian_version(version), seconds).encode()))
     put(f"{DOC}/README.Debian", ours("README.Debian"))
     for name, (data, is_run) in files.items():
-        if re.fullmatch(r"docs/[^/]+\.md|README\.md|CHANGELOG\.md|CHECK", name):
-            put(f"{DOC}/{os.path.basename(name)}", data)
+        if re.fullmatch(r"docs/(?:[^/]+/)?[^/]+\.md|README\.md|CHANGELOG\.md|CHECK", name):
+            put(f"{DOC}/{name.removeprefix('docs/')}", data)
         elif name.startswith(("deploy/", "examples/")):
             put(f"{DOC}/examples/{name.removeprefix('examples/')}", data, 0o755 if is_run else 0o644)
     return tree

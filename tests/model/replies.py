@@ -1,4 +1,4 @@
-"""The reply to a read, and the bytes of a reply: the specs of crates/dh_reply and crates/dh_wire, and docs/SCRIPTS.md."""
+"""The reply to a read, and the bytes of a reply: the specs of crates/dh_reply and crates/dh_reads, and docs/SCRIPTS.md."""
 
 import json
 from typing import NamedTuple, Optional

@@ -1,4 +1,4 @@
-"""HTTP requests and their replies: the specs of crates/dh_requests, crates/dh_http and crates/dh_bodies."""
+"""HTTP requests and their replies: the specs of crates/dh_requests and crates/dh_http."""
 
 import base64
 import binascii

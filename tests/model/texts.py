@@ -1,4 +1,4 @@
-"""Checked texts, slugs, escapes, targets: the specs of crates/dh_texts and crates/dh_paths. A text is its bytes."""
+"""Checked texts, slugs, escapes, targets: the specs of crates/dh_texts. A text is its bytes."""
 
 import re
 from typing import NamedTuple, Optional

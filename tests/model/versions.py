@@ -1,4 +1,4 @@
-"""Versions, release numbers, aliases and automation rules: the specs of crates/dh_versions and crates/dh_rules."""
+"""Versions, release numbers, aliases and automation rules: the specs of crates/dh_versions."""
 
 import re
 from dataclasses import dataclass

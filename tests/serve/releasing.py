@@ -225,7 +225,7 @@ def sums(part, checkout):
     new.write_text("")
     part.check("one file more", not checkout.takes_its_own())
     new.unlink()
-    other = checkout.root / "crates" / "test_rules_and_redirects" / "src" / "lib.rt"
+    other = checkout.root / "crates" / "test_crates" / "src" / "lib.rt"
     other.write_text(other.read_text() + "\n")
     part.check("a crate that the program is not made from", checkout.takes_its_own())
     checkout.kit_id.write_text("another toolchain\n")

@@ -21,7 +21,7 @@ trap 'rm -rf "$copy"' EXIT
 cp -r "$here/../../crates" "$here/../../crates.txt" "$copy"
 mkdir -p "$copy/crates/over_tables/src"
 cp "$here/$which.rt.in" "$copy/crates/over_tables/src/main.rt"
-echo "over_tables: dh_paths dh_versions dh_rules dh_redirects dh_world dh_reply dh_opening dh_tables sqlite sqlite_disk sqlite_store sqlite_pager" >>"$copy/crates.txt"
+echo "over_tables: dh_texts dh_versions dh_redirects dh_world dh_reply dh_opening dh_tables sqlite sqlite_disk sqlite_store sqlite_pager" >>"$copy/crates.txt"
 git -C "$copy" init -q
 cd "$copy/crates/over_tables"
 echo "run.sh: building; the run itself takes some minutes at most" >&2

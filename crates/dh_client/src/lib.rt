@@ -1,4 +1,4 @@
-//! What is run beside a server: sent to it, and told by its answer.
+//! A run beside a server that has the file: its orders sent as messages, its end told by the answers.
 #![tactic(auto)]
 
 mod by_server;

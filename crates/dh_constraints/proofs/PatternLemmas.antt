@@ -11,7 +11,7 @@ use Rattle.regex_syntax.specs.Verdict.{Reads, Refuses, default_config}
 use Rattle.regex_syntax.specs.declared.Config.{Config}
 use Rattle.regex_syntax.specs.declared.error.ErrorKind.{ErrorKind}
 use Rattle.regex_syntax.specs.declared.error.ErrorKind.TheVariants.{OutOfMemory}
-use Rattle.dh_rules.specs.Patterns.{is_expression}
+use Rattle.dh_versions.specs.Patterns.{is_expression}
 
 module _ {A : Type 0} (depth : A → ℕ) where
   within : (P : A → Type 0) (o : Option A) → IsSomeAnd o P → ((x : A) → P x → depth x ≤ 250) → option_map_or (λ (x : A). nat_le (depth x) 250) o false ≡ true

@@ -6,7 +6,7 @@ ghost use Rattle.serde_json.specs.Find.{get, as_number, as_u64};
 ghost use Rattle.serde_json.specs.View.{view};
 ghost use Rattle.dh_world.specs.Answers as spec;
 
-use dh_paths::{Slug, TextFault};
+use dh_texts::{Slug, TextFault};
 use dh_world::Operation;
 use serde_json::Value;
 use std::alloc::{AllocError, Global};

@@ -1,4 +1,4 @@
-//! Whether the records of a database keep their constraints: a decision over lists in memory, without a store.
+//! Whether records in memory keep the constraints, and can be read again.
 #![tactic(auto)]
 
 mod answers;

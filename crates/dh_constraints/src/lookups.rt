@@ -10,8 +10,8 @@ ghost use Rattle.dh_constraints.specs.Lists.{lists_in};
 use crate::places::is_among;
 use crate::records::Records;
 use crate::runs::{named_in, run_of};
-use dh_paths::{HostName, Lang, Slug, Token};
 use dh_records::{DefaultRow, LangRow, PassRow, ProjectRow, RedirectRow, RuleRow, VersionRow};
+use dh_texts::{HostName, Lang, Slug, Token};
 
 /// Whether one of the projects is this host's.
 pub fn is_host_among(projects: &[ProjectRow], host: &HostName) -> bool

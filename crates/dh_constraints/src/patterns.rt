@@ -1,11 +1,11 @@
 //! Whether a rule's pattern may be added, without compiling it.
 
 ghost use Rattle.std.specs.Prelude.{◌≡◌, IfOk};
-ghost use Rattle.dh_rules.specs.Patterns.{is_expression};
-ghost use Rattle.dh_rules.specs.Rules as rules;
+ghost use Rattle.dh_versions.specs.Patterns.{is_expression};
+ghost use Rattle.dh_versions.specs.Rules as rules;
 
-use dh_rules::Pattern;
-use dh_rules::rule::MOST_EXPRESSION_BYTES;
+use dh_versions::Pattern;
+use dh_versions::rule::MOST_EXPRESSION_BYTES;
 use regex_syntax::{Config, ErrorKind, parse};
 use std::alloc::{AllocError, Global};
 

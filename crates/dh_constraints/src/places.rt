@@ -6,8 +6,8 @@ ghost use Rattle.std.specs.Str.{bytes_eq};
 ghost use Rattle.dh_records.specs.Constraints.{AreDefaults, AreLanguages, HavePlaces};
 
 use crate::rows::{NamedRow, PlacedRow};
-use dh_paths::Lang;
 use dh_records::{DefaultRow, LangRow};
+use dh_texts::Lang;
 use dh_world::MOST_LANGUAGES;
 
 /// Whether a record has this name.

@@ -2,10 +2,10 @@
 
 ghost use Rattle.std.specs.Prelude.{◌≡◌, ℕ, List};
 
-use dh_paths::HostName;
 use dh_records::{
     DefaultRow, LangRow, PageRow, PassRow, ProjectRow, RedirectRow, RuleRow, VersionRow,
 };
+use dh_texts::HostName;
 
 /// A record that stands under a host.
 pub trait Hosted {

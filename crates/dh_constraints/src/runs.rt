@@ -7,7 +7,7 @@ ghost use Rattle.std.specs.Str.{bytes_eq};
 ghost use Rattle.dh_world.specs.World.{text_cmp, pair_cmp};
 
 use crate::rows::{Hosted, NamedRow};
-use dh_paths::HostName;
+use dh_texts::HostName;
 
 /// The records of a host, which stand side by side.
 pub fn run_of<'a, R: Hosted>(rows: &'a [R], host: &HostName) -> &'a [R]

@@ -3,8 +3,8 @@ use Rattle.std.proofs.Common.{◌≡◌, ◌∙◌, ℕ, true, ◌||◌, is_err,
 use Rattle.std.specs.Io.KnownBytes.{Appends}
 use Rattle.dh_lines.specs.declared.lines.Line.{Line}
 use Rattle.dh_lines.specs.declared.lines.Order.{Order}
-use Rattle.dh_lists.specs.declared.lists.ListFault.{ListFault}
-use Rattle.dh_lists.specs.declared.lists.ListFault.TheVariants.{BadRecord, Memory}
+use Rattle.dh_redirect_lists.specs.declared.lists.ListFault.{ListFault}
+use Rattle.dh_redirect_lists.specs.declared.lists.ListFault.TheVariants.{BadRecord, Memory}
 use Rattle.dh_script.proofs.Explained.{line, singly}
 use Rattle.dh_script.specs.Explaining.{DoesLineFor, PerformsSingleFor}
 use Rattle.dh_script.specs.Reading.{reader_failed, writer_failed}

@@ -6,9 +6,9 @@ use Rattle.std.specs.Str.{IsUtf8}
 use Rattle.dh_lines.specs.Lines.{ordering, line_in}
 use Rattle.dh_lines.specs.declared.lines.Line.{Line}
 use Rattle.dh_lines.specs.declared.lines.Order.{Order}
-use Rattle.dh_lists.specs.Lists.{ReadsList}
-use Rattle.dh_lists.specs.declared.lists.ListFault.{ListFault}
-use Rattle.dh_lists.specs.declared.lists.ListFault.TheVariants.{BadRecord, Memory}
+use Rattle.dh_redirect_lists.specs.Lists.{ReadsList}
+use Rattle.dh_redirect_lists.specs.declared.lists.ListFault.{ListFault}
+use Rattle.dh_redirect_lists.specs.declared.lists.ListFault.TheVariants.{BadRecord, Memory}
 use Rattle.dh_redirects.specs.declared.redirect.Redirect.{Redirect}
 use Rattle.dh_script.specs.Explaining.{DoesLineFor, PerformsSingleFor}
 use Rattle.dh_script.specs.Reading.{IsCauseOver}

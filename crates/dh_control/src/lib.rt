@@ -1,5 +1,4 @@
-//! Messages: orders that come in beside the requests of a server. What a message asks for, what it does, and how its end is
-//! told.
+//! Messages to a running server: made, done over a desk, answered, noted for the log, cut apart again.
 #![tactic(auto)]
 
 mod answering;

@@ -7,9 +7,9 @@ use Rattle.sqlite.specs.Effect.{Database}
 use Rattle.sqlite.specs.Held.{Held, state}
 use Rattle.dh_ports.specs.declared.fault.Fault.{Fault}
 use Rattle.dh_rows.specs.Calls.{IsHonest, LeavesNoMore}
-use Rattle.dh_schema.specs.Calling.{LooksAtLists}
-use Rattle.dh_schema.specs.InTurn.{lasts_on}
-use Rattle.dh_schema.specs.Tables.{lists_of}
+use Rattle.dh_records.specs.Calling.{LooksAtLists}
+use Rattle.dh_records.specs.InTurn.{lasts_on}
+use Rattle.dh_records.specs.Tables.{lists_of}
 use Rattle.dh_records.specs.Lists.{Lists}
 use Rattle.dh_renewal.specs.Filling.{DerivesRows, IsDerived, IsLeft}
 use Rattle.dh_tables.specs.Going.{last_records}

@@ -4,20 +4,20 @@ use Rattle.std.proofs.lemmas.Bool.{cases_Bool}
 use Rattle.std.proofs.lemmas.List.{map-append}
 use Rattle.sqlite_trees.specs.declared.store.Store.{Ghosts}
 use Rattle.dh_ports.specs.declared.fault.Fault.{Fault}
-use Rattle.dh_schema.specs.InTurn.{lasts_none, lasts_on}
-use Rattle.dh_wire.specs.declared.reply.Read.{Read}
-use Rattle.dh_wire.specs.declared.reply.Reply.{Reply}
+use Rattle.dh_records.specs.InTurn.{lasts_none, lasts_on}
+use Rattle.dh_reads.specs.declared.reply.Read.{Read}
+use Rattle.dh_reads.specs.declared.reply.Reply.{Reply}
 use Rattle.dh_world.specs.World.{Text, World}
 use Rattle.dh_world.specs.declared.answer.Answer.{Answer}
 use Rattle.dh_world.specs.declared.outcome.Outcome.{Outcome}
 use Rattle.dh_world.specs.declared.command.Command.{Command}
 use Rattle.dh_world.specs.declared.refusal.Refusal.{Refusal}
 use Rattle.dh_world.specs.Step.{IsStep}
-use Rattle.dh_histories.specs.declared.call.Call.{Call}
-use Rattle.dh_histories.specs.declared.call.Call.TheVariants.{Act, Ask}
-use Rattle.dh_histories.specs.CallsDone.{IsCallDone, AreCallsDone, outcome_of, outcome_of_read, calls_left, outcomes_left}
-use Rattle.dh_histories.specs.Runs.{reply_in}
-use Rattle.dh_histories.proofs.CallLemmas.{run_before}
+use Rattle.dh_laws.specs.declared.call.Call.{Call}
+use Rattle.dh_laws.specs.declared.call.Call.TheVariants.{Act, Ask}
+use Rattle.dh_laws.specs.CallsDone.{IsCallDone, AreCallsDone, outcome_of, outcome_of_read, calls_left, outcomes_left}
+use Rattle.dh_laws.specs.Runs.{reply_in}
+use Rattle.dh_laws.proofs.CallLemmas.{run_before}
 use Rattle.dh_desk.specs.Desk.{HasCleanDisk, IsHonest, WorldGoesBy, Standing, state, world}
 use Rattle.dh_desk.specs.DeskRuns.{DoesCall, DoesCalls, DoesWhileOpen, IsRunTo, IsDeskRun, is_answered, is_faulted, unanswered}
 use Rattle.dh_desk.proofs.Moving.{WorldGoesBy-refl, WorldGoesBy-trans, goes_clean}

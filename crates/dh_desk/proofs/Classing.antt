@@ -8,20 +8,20 @@ use Rattle.std.specs.Option.{option_map_or}
 use Rattle.std.proofs.lemmas.Slice.Eq.{bytes_eq-Decides}
 use Rattle.sqlite_trees.specs.declared.store.Store.{Ghosts}
 use Rattle.sqlite.specs.Held.{Held}
-use Rattle.dh_classes.specs.Classes.{class_of}
-use Rattle.dh_classes.specs.Replies.{IsOfClass, reply_for}
-use Rattle.dh_classes.proofs.ClassLemmas.{class_stays}
-use Rattle.dh_classes.proofs.ReplyLemmas.{class_replies}
+use Rattle.dh_laws.specs.Classes.{class_of}
+use Rattle.dh_laws.specs.Replies.{IsOfClass, reply_for}
+use Rattle.dh_laws.proofs.ClassLemmas.{class_stays}
+use Rattle.dh_laws.proofs.ReplyLemmas.{class_replies}
 use Rattle.dh_ports.specs.declared.fault.Fault.{Fault}
 use Rattle.dh_records.specs.Lists.{Lists, is_pass, is_project, project_of, world_of}
 use Rattle.dh_records.specs.declared.records.PassRow.{PassRow}
 use Rattle.dh_records.specs.declared.records.ProjectRow.{ProjectRow}
 use Rattle.dh_records.proofs.RecordLemmas.{found_passes}
 use Rattle.dh_records.proofs.SeenLemmas.{get_project, live_is}
-use Rattle.dh_replies.specs.Kept.{question_for}
+use Rattle.dh_reply_cache.specs.Kept.{question_for}
 use Rattle.dh_reply.specs.Replies.{reply_to}
-use Rattle.dh_wire.specs.declared.reply.Read.{Read}
-use Rattle.dh_wire.specs.declared.reply.Reply.{Reply}
+use Rattle.dh_reads.specs.declared.reply.Read.{Read}
+use Rattle.dh_reads.specs.declared.reply.Reply.{Reply}
 use Rattle.dh_view.specs.Remembered.{IsClassed}
 use Rattle.dh_world.specs.declared.caller.Caller.{Caller}
 use Rattle.dh_world.specs.World.{Project, Text, World}

@@ -10,7 +10,7 @@ use Rattle.dh_records.specs.declared.records.ProjectRow.{ProjectRow}
 use Rattle.dh_records.specs.declared.records.VersionRow.{VersionRow}
 use Rattle.dh_records.proofs.SeenLemmas.{get_project, get_version}
 use Rattle.dh_world.specs.World.{Text}
-use Rattle.dh_histories.specs.Purge.{AreFiled, IsFiled}
+use Rattle.dh_laws.specs.Purge.{AreFiled, IsFiled}
 
 -- the record that is found by a slug has it
 found_slug : (host slug : Text) (rows : List VersionRow) (v : Version) → option_map (λ r. r.version) (find (is_version host slug) rows) ≡ Some v → v.slug ≡ slug

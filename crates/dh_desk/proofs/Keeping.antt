@@ -3,9 +3,9 @@ use Rattle.std.proofs.Common.{◌≡◌, false, is_ok, Option, Result, Ok, Err, 
 use Rattle.sqlite_trees.specs.declared.store.Store.{Ghosts}
 use Rattle.sqlite.specs.Held.{Held}
 use Rattle.dh_records.specs.Lists.{Lists, world_of}
-use Rattle.dh_replies.specs.Kept.{AreRepliesRight}
-use Rattle.dh_replies.specs.declared.replies.Replies.{Replies}
-use Rattle.dh_schema.specs.Calling.{HasRecords}
+use Rattle.dh_reply_cache.specs.Kept.{AreRepliesRight}
+use Rattle.dh_reply_cache.specs.declared.replies.Replies.{Replies}
+use Rattle.dh_records.specs.Calling.{HasRecords}
 use Rattle.dh_tables.specs.Going.{last_records, records}
 use Rattle.dh_transactions.specs.Steps.{TakesStep, IsOneTransaction}
 use Rattle.dh_view.specs.Right.{IsRightAt}

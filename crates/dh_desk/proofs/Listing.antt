@@ -4,9 +4,9 @@ use Rattle.std.specs.Prelude.{IfSome, option_map}
 use Rattle.std.specs.FinMap.{get}
 use Rattle.sqlite_trees.specs.declared.store.Store.{Ghosts}
 use Rattle.sqlite.specs.Held.{Held}
-use Rattle.dh_classes.specs.Classes.{class_of, seen_by}
-use Rattle.dh_classes.specs.Replies.{IsOfClass}
-use Rattle.dh_classes.proofs.ClassLemmas.{class_decides}
+use Rattle.dh_laws.specs.Classes.{class_of, seen_by}
+use Rattle.dh_laws.specs.Replies.{IsOfClass}
+use Rattle.dh_laws.proofs.ClassLemmas.{class_decides}
 use Rattle.dh_ports.specs.declared.fault.Fault.{Fault}
 use Rattle.dh_records.specs.Lists.{Lists, world_of}
 use Rattle.dh_tables.specs.Going.{StaysHonest}

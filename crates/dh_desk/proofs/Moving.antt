@@ -3,7 +3,7 @@ use Rattle.std.proofs.Common.{◌≡◌, ◌⊎◌, inl, inr, Bool, true, false,
 use Rattle.std.specs.Prelude.{IfErr}
 use Rattle.std.proofs.lemmas.Bool.{cases_Bool}
 use Rattle.sqlite_trees.specs.declared.store.Store.{Ghosts}
-use Rattle.dh_schema.specs.InTurn.{lasts_none, lasts_on}
+use Rattle.dh_records.specs.InTurn.{lasts_none, lasts_on}
 use Rattle.dh_desk.specs.Desk.{HasCleanDisk, IsHonest, IsWorldOf, KeepsFaults, Standing, WorldGoesBy, state, world}
 use Rattle.dh_world.specs.World.{World}
 use Rattle.dh_world.specs.CheckResults.{IsFault}

@@ -9,10 +9,10 @@ use Rattle.sqlite.specs.Held.{Held, state}
 use Rattle.dh_ports.specs.Faults.{OnStore}
 use Rattle.dh_ports.specs.declared.fault.Fault.{Fault}
 use Rattle.dh_rows.specs.Calls.{IsBlamed, IsHonest, IsSame, KeepsFaults}
-use Rattle.dh_schema.specs.Tables.{lists_of}
-use Rattle.dh_schema.proofs.CallLemmas.{on_store}
-use Rattle.dh_schema.specs.Calling.{StoreFaultHasCause}
-use Rattle.dh_schema.specs.InTurn.{blamed_before, shut_before}
+use Rattle.dh_records.specs.Tables.{lists_of}
+use Rattle.dh_records.proofs.CallLemmas.{on_store}
+use Rattle.dh_records.specs.Calling.{StoreFaultHasCause}
+use Rattle.dh_records.specs.InTurn.{blamed_before, shut_before}
 use Rattle.dh_view.specs.View.{FailsWithCause, LeavesHonest}
 
 module _ {S : Type 0} (g : Ghosts S) (a b c : Held S) where

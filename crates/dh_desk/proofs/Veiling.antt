@@ -2,8 +2,8 @@
 use Rattle.std.proofs.Common.{◌≡◌, ℕ, Option, Result, IfOk, sym, ap, subst}
 use Rattle.dh_reply.specs.Replies.{reply_to}
 use Rattle.dh_ports.specs.declared.fault.Fault.{Fault}
-use Rattle.dh_wire.specs.declared.reply.Read.{Read}
-use Rattle.dh_wire.specs.declared.reply.Reply.{Reply}
+use Rattle.dh_reads.specs.declared.reply.Read.{Read}
+use Rattle.dh_reads.specs.declared.reply.Reply.{Reply}
 use Rattle.dh_world.specs.World.{Text, World}
 use Rattle.dh_world.specs.Reads.{host_named, caller_named}
 use Rattle.dh_world.proofs.VeilLemmas.{veil_law}

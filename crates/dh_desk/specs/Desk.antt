@@ -4,8 +4,8 @@ use Rattle.std.specs.Coded.{Coded, code_by, coded×, coded_bool, coded_ℕ}
 use Rattle.sqlite_trees.specs.declared.store.Store.{Ghosts}
 use Rattle.sqlite.specs.Held.{Held, held_code}
 use Rattle.dh_records.specs.Lists.{world_of}
-use Rattle.dh_replies.specs.Kept.{AreRepliesRight}
-use Rattle.dh_replies.specs.declared.replies.Replies.{Replies}
+use Rattle.dh_reply_cache.specs.Kept.{AreRepliesRight}
+use Rattle.dh_reply_cache.specs.declared.replies.Replies.{Replies}
 use Rattle.dh_tables.specs.Going.{records}
 use Rattle.dh_world.specs.World.{Text, World}
 use Rattle.dh_world.specs.Reads.{host_named, caller_named}
@@ -14,12 +14,12 @@ use Rattle.dh_world.specs.declared.answer.Answer.{Answer}
 use Rattle.dh_world.specs.declared.refusal.Refusal.{Refusal}
 use Rattle.dh_world.specs.declared.refusal.Refusal.TheVariants.{Store, OutOfMemory}
 -- definitions of other crates that the clauses of a desk cite
-pub use Rattle.dh_histories.specs.Runs.{reply_in}
+pub use Rattle.dh_laws.specs.Runs.{reply_in}
 pub use Rattle.sqlite.specs.Held.{state}
 pub use Rattle.sqlite.specs.State.{HasCleanDisk}
 pub use Rattle.dh_rows.specs.Calls.{IsHonest, IsRefused, KeepsFaults}
-pub use Rattle.dh_schema.specs.Calling.{StoreFaultHasCause}
-pub use Rattle.dh_schema.specs.Tables.{lists_of}
+pub use Rattle.dh_records.specs.Calling.{StoreFaultHasCause}
+pub use Rattle.dh_records.specs.Tables.{lists_of}
 pub use Rattle.dh_tables.specs.Going.{last_records}
 pub use Rattle.dh_transactions.specs.Steps.{AreConsistent}
 

@@ -6,10 +6,10 @@ use Rattle.dh_world.specs.World.{World}
 use Rattle.dh_world.specs.declared.outcome.Outcome.{Outcome}
 use Rattle.dh_world.specs.declared.outcome.Outcome.TheVariants.{Applied, Refused, Replied, Failed}
 use Rattle.dh_world.specs.declared.refusal.Refusal.TheVariants as refusal
-use Rattle.dh_histories.specs.declared.call.Call.{Call}
-use Rattle.dh_histories.specs.declared.call.Call.TheVariants.{Act, Ask}
-use Rattle.dh_histories.specs.CallsDone.{IsCallDone, calls_left, outcomes_left}
-use Rattle.dh_histories.specs.Runs.{run}
+use Rattle.dh_laws.specs.declared.call.Call.{Call}
+use Rattle.dh_laws.specs.declared.call.Call.TheVariants.{Act, Ask}
+use Rattle.dh_laws.specs.CallsDone.{IsCallDone, calls_left, outcomes_left}
+use Rattle.dh_laws.specs.Runs.{run}
 use Rattle.dh_desk.specs.Desk.{HasCleanDisk, IsHonest, KeepsFaults, WorldGoesBy, Standing, state, world}
 
 -- the outcome of a call of a closed desk

@@ -1,14 +1,14 @@
 //! Lists of calls.
 ghost use Rattle.std.specs.Prelude.{◌≡◌, true, false, length, option_map, IfOk, OnErr};
-ghost use Rattle.dh_histories.specs.CallsDone.{AreCallsDone, IsCallDone, outcome_of, outcome_of_read};
+ghost use Rattle.dh_laws.specs.CallsDone.{AreCallsDone, IsCallDone, outcome_of, outcome_of_read};
 ghost use Rattle.dh_desk.specs.Desk.{HasCleanDisk, IsHonest, WorldGoesBy, state};
 ghost use Rattle.dh_desk.specs.DeskRuns.{DoesWhileOpen, is_answered, is_faulted, unanswered};
 
 use crate::desk::Desk;
-use dh_histories::Call;
-use dh_paths::Text;
+use dh_laws::Call;
 use dh_ports::Fault;
 use dh_reply::Reply;
+use dh_texts::Text;
 use dh_world::{Answer, Outcome, Refusal};
 use sqlite::Alter;
 use std::alloc::{AllocError, Global};

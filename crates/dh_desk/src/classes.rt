@@ -1,14 +1,14 @@
 //! The class of a caller.
 ghost use Rattle.std.specs.Prelude.{◌≡◌, false};
 ghost use Rattle.std.specs.Option.{option_map_or};
-ghost use Rattle.dh_classes.specs.Replies.{IsOfClass};
+ghost use Rattle.dh_laws.specs.Replies.{IsOfClass};
 ghost use Rattle.dh_records.specs.Lists.{world_of};
 ghost use Rattle.dh_view.specs.View.{LearnsInTurn};
 ghost use Rattle.dh_world.specs.Visibility as visibility;
 
-use dh_paths::{HostName, Token};
 use dh_ports::Found;
 use dh_tables::{PassRow, Tables};
+use dh_texts::{HostName, Token};
 use dh_world::{Caller, PassEnd};
 use sqlite::Alter;
 use std::alloc::Global;

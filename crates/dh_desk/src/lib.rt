@@ -1,5 +1,4 @@
-//! The desk: commands and reads over the tables. A command changes the world by exactly one step; a
-//! read changes nothing, and its reply is that of the world.
+//! `Desk`: commands, reads and lists over the tables; what a fault of the store closes.
 #![tactic(auto)]
 
 mod calls;
@@ -11,7 +10,7 @@ mod reads;
 
 pub use calls::{commanded, pass_text, read_out};
 pub use desk::Desk;
-pub use dh_histories::{Call, done_is_run, purge_law, runs_answer_for_good};
+pub use dh_laws::{Call, done_is_run, purge_law, runs_answer_for_good};
 pub use dh_tables::Tables;
 pub use dh_world::{Answer, Command, CommandChange, Outcome, Pages, Refusal, UploadedPage};
 pub use laws::{calls_are_a_run, memory_answers, veiled_reply, worlds_are_filed};

@@ -5,9 +5,9 @@ use Rattle.std.specs.FinMap.{get, insert}
 use Rattle.std.specs.List.{IsDistinct}
 use Rattle.std.specs.Option.{option_map_or}
 use Rattle.std.specs.Str.{bytes_eq}
-use Rattle.dh_plans.specs.Edits.{edited, all_edited, MayEdit, MayEditAll}
-use Rattle.dh_plans.specs.declared.edits.Edit.{Edit}
-use Rattle.dh_plans.specs.declared.edits.Edit.TheVariants.{AddLang, PutVersion, PutWithoutPages, RemoveVersion, PutPage, RemovePages, SetDefaults, SetRules, SetRedirects, AddPass, RemovePass, Grant, Revoke, PutRetryAnswer}
+use Rattle.dh_commands.specs.Edits.{edited, all_edited, MayEdit, MayEditAll}
+use Rattle.dh_commands.specs.declared.edits.Edit.{Edit}
+use Rattle.dh_commands.specs.declared.edits.Edit.TheVariants.{AddLang, PutVersion, PutWithoutPages, RemoveVersion, PutPage, RemovePages, SetDefaults, SetRules, SetRedirects, AddPass, RemovePass, Grant, Revoke, PutRetryAnswer}
 use Rattle.dh_rows.specs.Keyed.{IsFreeKey}
 use Rattle.dh_records.proofs.AccessChanges.{world_gone, world_with_defaults, world_with_pass, pass_count_in, world_pass_gone, world_with_grant, world_without_grant}
 use Rattle.dh_records.proofs.AccessConstraints.{defaults_distinct, filter_distinct, front_distinct, constraints_gone, constraints_with_front, constraints_with_pass, constraints_pass_gone, constraints_with_grant, constraints_without_grants, order_without_version, order_with_defaults, order_with_pass, order_without_pass, order_with_grant, order_without_grants}

@@ -2,9 +2,9 @@
 use Rattle.std.specs.Prelude.{◌≡◌, ℕ, false, List, [], ◌∷◌, Option, Some, None}
 use Rattle.std.specs.List.{IsDistinct}
 use Rattle.std.specs.Str.{bytes_eq}
-use Rattle.dh_plans.specs.declared.edits.Edit.{Edit}
-use Rattle.dh_plans.specs.declared.edits.Edit.TheVariants.{AddLang, PutVersion, PutWithoutPages, RemoveVersion, PutPage, RemovePages, SetDefaults, SetRules, SetRedirects, AddPass, RemovePass, Grant, Revoke, PutRetryAnswer}
-use Rattle.dh_plans.specs.AnsweredKey.{AnsweredKey}
+use Rattle.dh_commands.specs.declared.edits.Edit.{Edit}
+use Rattle.dh_commands.specs.declared.edits.Edit.TheVariants.{AddLang, PutVersion, PutWithoutPages, RemoveVersion, PutPage, RemovePages, SetDefaults, SetRules, SetRedirects, AddPass, RemovePass, Grant, Revoke, PutRetryAnswer}
+use Rattle.dh_commands.specs.AnsweredKey.{AnsweredKey}
 use Rattle.dh_rows.specs.Keyed.{IsFreeKey}
 use Rattle.dh_records.specs.Changes as change
 use Rattle.dh_records.specs.Codings as coding

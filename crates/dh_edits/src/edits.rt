@@ -7,11 +7,10 @@ ghost use Rattle.dh_records.specs.Changes as change;
 ghost use Rattle.dh_tables.specs.Going.{HasRecords, IsWithin, ChangesRecords};
 ghost use Rattle.dh_edits.specs.RowEdits.{RowsMay, rows_edited, version_row};
 
-use dh_checks::CheckedPage;
-use dh_paths::{Bytes, HostName, Lang, Slug, Text, Token};
-use dh_plans::{Edit, RetryAnswer};
-use dh_seen::Page;
+use dh_commands::{CheckedPage, Edit, RetryAnswer};
+use dh_reads::Page;
 use dh_tables::{GrantRow, LangRow, PageRow, PassRow, Tables, VersionRow};
+use dh_texts::{Bytes, HostName, Lang, Slug, Text, Token};
 use dh_versions::Version;
 use dh_world::{PassEnd, Refusal};
 use sqlite::Alter;

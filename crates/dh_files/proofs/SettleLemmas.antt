@@ -6,7 +6,7 @@ use Rattle.sqlite.specs.Held.{Held, state}
 use Rattle.sqlite.specs.State.{HasCleanDisk}
 use Rattle.dh_rows.specs.Calls.{IsHonest, committed}
 use Rattle.dh_records.specs.Constraints.{AreInOrder, KeepsConstraints}
-use Rattle.dh_schema.specs.Tables.{lists_of}
+use Rattle.dh_records.specs.Tables.{lists_of}
 use Rattle.dh_renewal.specs.Filling.{IsLeft}
 use Rattle.dh_renewal.proofs.SameBase.{same_sound}
 use Rattle.dh_opening.specs.Filling.{IsOpened}

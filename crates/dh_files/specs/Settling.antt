@@ -6,8 +6,8 @@ use Rattle.sqlite.specs.Held.{Held, state}
 use Rattle.dh_rows.specs.Calls.{IsHonest}
 use Rattle.dh_records.specs.Constraints.{KeepsConstraints}
 use Rattle.dh_records.specs.Lists.{base_of}
-use Rattle.dh_schema.specs.Tables.{HoldsTables, lists_of}
-use Rattle.dh_derived.specs.Rightness.{AreRight}
+use Rattle.dh_records.specs.Tables.{HoldsTables, lists_of}
+use Rattle.dh_stored_names.specs.Rightness.{AreRight}
 use Rattle.dh_opening.specs.Opening.{IsOurs}
 
 -- The store is honest and was, no transaction is open, and R relates what was seen to what is committed.

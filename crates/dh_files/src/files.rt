@@ -4,7 +4,7 @@ ghost use Rattle.std.specs.Prelude.{◌≡◌, ◌≢◌, false, [], IfErr, IfOk
 ghost use Rattle.sqlite.specs.Held.{state};
 ghost use Rattle.sqlite.specs.State.{HasCleanDisk};
 ghost use Rattle.dh_rows.specs.Calls.{IsHonest};
-ghost use Rattle.dh_schema.specs.Making.{IsMade};
+ghost use Rattle.dh_records.specs.Making.{IsMade};
 ghost use Rattle.dh_opening.specs.Migrating.{IsMigrated};
 ghost use Rattle.dh_files.specs.Settling.{IsServed, IsSettledBy};
 

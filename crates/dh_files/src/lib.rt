@@ -1,4 +1,4 @@
-//! Records in a file: making, opening and closing a file, and what is wrong with one that cannot be opened.
+//! Files of records: made, opened, migrated, closed, and what is wrong with one.
 #![tactic(auto)]
 
 mod fault;

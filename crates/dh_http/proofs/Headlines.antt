@@ -1,8 +1,8 @@
 -- The headline, from what is said of each request.
 use Rattle.std.proofs.Common.{◌≡◌, ◌⊎◌, ℕ, Bool, false, List, Option, Some, None, Result, Ok, Err, inl, inr, ap, subst, ◌∙◌}
-use Rattle.dh_wire.specs.Wire.{reply_bytes_of}
-use Rattle.dh_wire.specs.declared.reply.Read.{Read}
-use Rattle.dh_wire.specs.declared.reply.Reply.{Reply}
+use Rattle.dh_reads.specs.Wire.{reply_bytes_of}
+use Rattle.dh_reads.specs.declared.reply.Read.{Read}
+use Rattle.dh_reads.specs.declared.reply.Reply.{Reply}
 use Rattle.dh_requests.specs.declared.request.Request.{Request}
 use Rattle.dh_requests.specs.declared.request.Request.TheVariants as request
 use Rattle.dh_requests.proofs.Requests.{one}

@@ -7,9 +7,9 @@ use Rattle.dh_requests.specs.declared.request.Request.TheVariants as request
 use Rattle.dh_requests.specs.Request.{IsRequest}
 use Rattle.dh_requests.specs.declared.cause.Cause.{Cause}
 use Rattle.dh_requests.proofs.Requests.{one}
-use Rattle.dh_wire.specs.Statuses.{fault_reply_of}
-use Rattle.dh_wire.specs.declared.reply.Read.{Read}
-use Rattle.dh_wire.specs.declared.reply.Reply.{Reply}
+use Rattle.dh_reads.specs.Statuses.{fault_reply_of}
+use Rattle.dh_reads.specs.declared.reply.Read.{Read}
+use Rattle.dh_reads.specs.declared.reply.Reply.{Reply}
 use Rattle.dh_world.specs.World.{World}
 use Rattle.dh_world.specs.Step.{IsStep}
 use Rattle.dh_world.specs.declared.answer.Answer.{Answer}

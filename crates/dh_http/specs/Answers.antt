@@ -3,10 +3,10 @@ use Rattle.std.specs.Prelude.{◌≡◌, ◌⊎◌, ℕ, Bool, true, false, List
 use Rattle.std.specs.Io.KnownBytes.{Appends}
 use Rattle.dh_ports.specs.Ports.{PutsFirst}
 use Rattle.dh_reply.specs.Replies.{reply_to}
-use Rattle.dh_wire.specs.Statuses.{fault_reply_of}
-use Rattle.dh_wire.specs.Wire.{reply_bytes_of}
-use Rattle.dh_wire.specs.declared.reply.Read.{Read}
-use Rattle.dh_wire.specs.declared.reply.Reply.{Reply}
+use Rattle.dh_reads.specs.Statuses.{fault_reply_of}
+use Rattle.dh_reads.specs.Wire.{reply_bytes_of}
+use Rattle.dh_reads.specs.declared.reply.Read.{Read}
+use Rattle.dh_reads.specs.declared.reply.Reply.{Reply}
 use Rattle.dh_requests.specs.Causes.{status_of, allowed_by}
 use Rattle.dh_requests.specs.Heard.{HearsRequest}
 use Rattle.dh_requests.specs.Request.{IsRequest}

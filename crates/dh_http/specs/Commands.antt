@@ -2,9 +2,9 @@
 use Rattle.std.specs.Prelude.{ℕ, List, None, Result, Ok, Err, codes, unwrap_or}
 use Rattle.serde_json.specs.Data.{Data, number, unsigned, string, object, no_members, member}
 use Rattle.serde_json.specs.Written.{compact_text}
-use Rattle.dh_wire.specs.declared.reply.Reply.{Reply}
-use Rattle.dh_wire.specs.Bodies.{json, body_reply}
-use Rattle.dh_wire.specs.Statuses.{fault_reply_of}
+use Rattle.dh_reads.specs.declared.reply.Reply.{Reply}
+use Rattle.dh_reads.specs.Bodies.{json, body_reply}
+use Rattle.dh_reads.specs.Statuses.{fault_reply_of}
 use Rattle.dh_world.specs.Answers.{data_of}
 use Rattle.dh_world.specs.Refusals.{refusal_number}
 use Rattle.dh_world.specs.declared.answer.Answer.{Answer}

@@ -2,8 +2,8 @@
 -- `headline`, for each store whose disk returned what was written, also where a fault shuts the store within the call.
 use Rattle.std.specs.Prelude.{◌≡◌, ◌⊎◌, ℕ, Bool, List, Option, Result, IfSome, OnOk}
 use Rattle.std.specs.Io.KnownBytes.{Appends}
-use Rattle.dh_wire.specs.Wire.{reply_bytes_of}
-use Rattle.dh_wire.specs.declared.reply.Read.{Read}
+use Rattle.dh_reads.specs.Wire.{reply_bytes_of}
+use Rattle.dh_reads.specs.declared.reply.Read.{Read}
 use Rattle.dh_requests.specs.Request.{IsRequest}
 use Rattle.dh_requests.specs.declared.request.Request.TheVariants as request
 use Rattle.dh_world.specs.World.{World}

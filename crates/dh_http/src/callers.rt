@@ -3,7 +3,7 @@
 ghost use Rattle.std.specs.Prelude.{◌≡◌, ℕ, option_map};
 ghost use Rattle.dh_world.specs.Reads.{caller_named, host_named};
 
-use dh_paths::{Bytes, HostName};
+use dh_texts::{Bytes, HostName};
 
 /// The name of the host; the empty text, which is no host's name, where there is none.
 pub fn host_text(host: &Option<HostName>) -> &str

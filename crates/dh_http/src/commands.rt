@@ -2,7 +2,7 @@
 
 ghost use Rattle.std.specs.Prelude.{◌≡◌, IfOk, string_bytes};
 ghost use Rattle.serde_json.specs.View.{view};
-ghost use Rattle.dh_wire.specs.Bodies.{json, body_reply};
+ghost use Rattle.dh_reads.specs.Bodies.{json, body_reply};
 ghost use Rattle.dh_http.specs.Commands as spec;
 
 use dh_reply::{Reply, fault_reply, text_reply};

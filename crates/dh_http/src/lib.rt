@@ -1,4 +1,4 @@
-//! One request over a desk: it is read, done, and answered.
+//! One HTTP request over a desk: read, done, answered, and noted for the log; the headline.
 //!
 //! What is promised of a read request is the clause `headline` of `answer`, by `specs/Headline.antt`.
 #![tactic(auto)]

@@ -1,7 +1,7 @@
 //! Writes replies.
 
 ghost use Rattle.std.specs.Prelude.{◌≡◌, false};
-ghost use Rattle.dh_wire.specs.Wire.{head_of};
+ghost use Rattle.dh_reads.specs.Wire.{head_of};
 ghost use Rattle.dh_http.specs.Commands.{unavailable};
 ghost use Rattle.dh_http.specs.Answers.{IsWritten, WritesAnswer, is_unread, writer_failed};
 

@@ -11,17 +11,17 @@ use Rattle.clap.specs.Faults.{defaults_fault}
 use Rattle.clap.specs.declared.error.kind.ErrorKind.TheVariants.{UnknownArgument, InvalidSubcommand}
 use Rattle.dh_versions.specs.declared.version.Kind.{Kind}
 use Rattle.dh_versions.specs.declared.version.Kind.TheVariants.{Branch, Tag}
-use Rattle.dh_rules.specs.Patterns.{pattern_text}
-use Rattle.dh_rules.specs.declared.pattern.Pattern.{Pattern}
-use Rattle.dh_rules.specs.declared.rule.Action.{Action}
+use Rattle.dh_versions.specs.Patterns.{pattern_text}
+use Rattle.dh_versions.specs.declared.pattern.Pattern.{Pattern}
+use Rattle.dh_versions.specs.declared.rule.Action.{Action}
 use Rattle.dh_redirects.specs.declared.redirect.RedirectKind.{RedirectKind}
 use Rattle.dh_world.specs.declared.command.CommandChange.{CommandChange}
 use Rattle.dh_world.specs.declared.command.CommandChange.TheVariants.{AddRedirect, AddRule}
-use Rattle.dh_word_tables.specs.Words.{is_plain_word, ArePlain, has_command}
-use Rattle.dh_word_tables.proofs.NameLemmas.{IsQuiet}
-use Rattle.dh_word_tables.proofs.TokenLemmas.{Token, chosen, written, text_of, Fits, tokens_rows}
-use Rattle.dh_word_tables.proofs.TokenLemmas.{tokens_level}
-use Rattle.dh_word_tables.proofs.FormLemmas.{form_matches, form_fails, stray_fails}
+use Rattle.dh_lines.specs.Words.{is_plain_word, ArePlain, has_command}
+use Rattle.dh_lines.proofs.NameLemmas.{IsQuiet}
+use Rattle.dh_lines.proofs.TokenLemmas.{Token, chosen, written, text_of, Fits, tokens_rows}
+use Rattle.dh_lines.proofs.TokenLemmas.{tokens_level}
+use Rattle.dh_lines.proofs.FormLemmas.{form_matches, form_fails, stray_fails}
 use Rattle.dh_lines.specs.App.{docs_app, bare_app, with_store}
 use Rattle.dh_lines.specs.Lines.{line_in, as_line, ordering, named_line, line_with, unless_faulty, change_in}
 use Rattle.dh_lines.specs.Lines.{OrdersLine, OrdersOnVersion, OrdersRedirectBy}

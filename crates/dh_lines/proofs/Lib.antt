@@ -1,3 +1,9 @@
+pub mod AppLemmas
+pub mod PlainLemmas
+pub mod NameLemmas
+pub mod TokenLemmas
+pub mod FormLemmas
+pub mod StandsLemmas
 pub mod LineLemmas
 pub mod FormLines
 pub mod PatternLemmas

@@ -10,8 +10,8 @@ use Rattle.clap.specs.Built.{BuildsOrBreaks, is_broken}
 use Rattle.clap.specs.Simple.{app_of, subcommand_of, subcommand_rows, subcommand_rows_of}
 use Rattle.clap.specs.Simple.{HasMatchesOf}
 use Rattle.clap.specs.declared.builder.command.Command.{Command}
-use Rattle.dh_word_tables.specs.Apps.{StandsFor}
-use Rattle.dh_word_tables.proofs.StandsLemmas.{IsSteady, agrees, still_stands}
+use Rattle.dh_lines.specs.Apps.{StandsFor}
+use Rattle.dh_lines.proofs.StandsLemmas.{IsSteady, agrees, still_stands}
 use Rattle.clap.specs.Values.{kind_of}
 use Rattle.clap.specs.Kinds.{Kinds, IsAmong, HasKind}
 use Rattle.clap.specs.Faults.{fault_of, is_simple_and_free}

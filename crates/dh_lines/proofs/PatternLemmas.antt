@@ -6,10 +6,10 @@ use Rattle.std.specs.Str.{bytes_eq}
 use Rattle.std.proofs.lemmas.List.{take-append-drop}
 use Rattle.std.proofs.lemmas.Slice.Eq.{bytes_eq-Decides}
 use Rattle.clap.specs.Walk.{Text}
-use Rattle.dh_rules.specs.Patterns.{pattern_text, expression_mark, IsPatternOf}
-use Rattle.dh_rules.specs.declared.pattern.Pattern.{Pattern}
-use Rattle.dh_rules.specs.declared.pattern.Pattern.TheVariants.{All, SemVer, Custom}
-use Rattle.dh_word_tables.specs.Words.{is_plain_word}
+use Rattle.dh_versions.specs.Patterns.{pattern_text, expression_mark, IsPatternOf}
+use Rattle.dh_versions.specs.declared.pattern.Pattern.{Pattern}
+use Rattle.dh_versions.specs.declared.pattern.Pattern.TheVariants.{All, SemVer, Custom}
+use Rattle.dh_lines.specs.Words.{is_plain_word}
 use Rattle.dh_lines.specs.Lines.{pattern_of}
 
 pub pattern_of-text : (pattern : Pattern) → pattern_of (pattern_text pattern) ≡ Some pattern

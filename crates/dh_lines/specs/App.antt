@@ -2,8 +2,8 @@
 use Rattle.std.specs.Prelude.{List, [], ◌∷◌, ◌++◌, codes, map}
 use Rattle.clap.specs.Walk.{Text}
 use Rattle.clap.specs.Simple.{App, new_app, with_rule}
-use Rattle.dh_word_tables.specs.Apps.{option_rule, required_option_rule, flag_rule, form, program_of}
-use Rattle.dh_word_tables.specs.Apps.{with_apps}
+use Rattle.dh_lines.specs.Apps.{option_rule, required_option_rule, flag_rule, form, program_of}
+use Rattle.dh_lines.specs.Apps.{with_apps}
 
 abbrev pub upload_app : App
 upload_app = with_rule (form (codes "upload")

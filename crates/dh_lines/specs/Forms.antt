@@ -1,7 +1,7 @@
 -- The forms of the program's words, as `clap` sees them.
 use Rattle.std.specs.Prelude.{map, fold}
 use Rattle.clap.specs.Simple.{App, with_rule}
-use Rattle.dh_word_tables.specs.Apps.{option_rule, required_option_rule, flag_rule, form}
+use Rattle.dh_lines.specs.Apps.{option_rule, required_option_rule, flag_rule, form}
 use Rattle.dh_lines.specs.declared.app.Form.{Form}
 use Rattle.dh_lines.specs.declared.app.More.{More}
 use Rattle.dh_lines.specs.declared.app.More.TheVariants as more

@@ -13,12 +13,12 @@ use Rattle.clap.specs.declared.parser.matches.ArgMatches.{ArgMatches}
 use Rattle.dh_texts.specs.Numbers.{decimal_below}
 use Rattle.dh_versions.specs.declared.version.Kind.{Kind}
 use Rattle.dh_versions.specs.declared.version.Kind.TheVariants.{Branch, Tag}
-use Rattle.dh_rules.specs.Patterns.{pattern_text, expression_mark}
-use Rattle.dh_rules.specs.declared.pattern.Pattern.{Pattern}
-use Rattle.dh_rules.specs.declared.pattern.Pattern.TheVariants.{All, SemVer, Custom}
-use Rattle.dh_rules.specs.declared.rule.Action.{Action}
-use Rattle.dh_rules.specs.declared.rule.Action.TheVariants as action
-use Rattle.dh_rules.specs.declared.rule.Rule.{Rule}
+use Rattle.dh_versions.specs.Patterns.{pattern_text, expression_mark}
+use Rattle.dh_versions.specs.declared.pattern.Pattern.{Pattern}
+use Rattle.dh_versions.specs.declared.pattern.Pattern.TheVariants.{All, SemVer, Custom}
+use Rattle.dh_versions.specs.declared.rule.Action.{Action}
+use Rattle.dh_versions.specs.declared.rule.Action.TheVariants as action
+use Rattle.dh_versions.specs.declared.rule.Rule.{Rule}
 use Rattle.dh_redirects.specs.Redirects.{redirect_kind_of, redirect_status_of}
 use Rattle.dh_redirects.specs.declared.redirect.Redirect.{Redirect}
 use Rattle.dh_redirects.specs.declared.redirect.RedirectKind.{RedirectKind}
@@ -38,7 +38,7 @@ use Rattle.dh_listings.specs.declared.words.ListWord.TheVariants.{Projects, OfPr
 use Rattle.dh_listings.specs.declared.words.ProjectList.{ProjectList}
 use Rattle.dh_listings.specs.declared.words.ProjectList.TheVariants.{Langs, Versions, Defaults, Rules}
 use Rattle.dh_listings.specs.declared.words.ProjectList.TheVariants.{Redirects, Passes, Pages}
-use Rattle.dh_word_tables.specs.Words.{is_plain_word, ArePlain}
+use Rattle.dh_lines.specs.Words.{is_plain_word, ArePlain}
 use Rattle.dh_lines.specs.App.{docs_app}
 use Rattle.dh_lines.specs.declared.lines.Line.{Line}
 use Rattle.dh_lines.specs.declared.lines.Order.{Order}

@@ -1,13 +1,13 @@
 //! The words of the program and of a script's line, as `clap` sees them.
 
 ghost use Rattle.std.specs.Prelude.{◌≡◌, IfOk, map, fold, [], ◌∷◌};
-ghost use Rattle.dh_word_tables.specs.Apps.{IsApp, with_apps};
-ghost use Rattle.dh_word_tables.specs.Apps.{with_words as words_added};
+ghost use Rattle.dh_lines.specs.Apps.{IsApp, with_apps};
+ghost use Rattle.dh_lines.specs.Apps.{with_words as words_added};
 ghost use Rattle.dh_lines.specs.App.{bare_app, command_apps, docs_app};
 ghost use Rattle.dh_lines.specs.Forms.{app_of_form, with_more};
 
+use crate::building::Syntax;
 use clap::Command;
-use dh_word_tables::Syntax;
 use std::alloc::{AllocError, Global};
 
 /// What a form may take beside its words.

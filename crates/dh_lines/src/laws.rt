@@ -4,7 +4,7 @@
 ghost use Rattle.std.specs.Prelude.{◌≡◌, ℕ, true, false, Some, None, codes, ◌∷◌, [], List};
 ghost use Rattle.clap.specs.Walk.{Text};
 ghost use Rattle.dh_versions.specs.declared.version.Kind.TheVariants.{Branch, Tag};
-ghost use Rattle.dh_rules.specs.declared.rule.Action.TheVariants as action;
+ghost use Rattle.dh_versions.specs.declared.rule.Action.TheVariants as action;
 ghost use Rattle.dh_redirects.specs.declared.redirect.RedirectKind.TheVariants.{Page, Exact};
 ghost use Rattle.dh_redirects.specs.declared.redirect.RedirectKind.TheVariants.{CleanToHtml};
 ghost use Rattle.dh_redirects.specs.declared.redirect.RedirectKind.TheVariants.{HtmlToClean};
@@ -19,7 +19,7 @@ ghost use Rattle.dh_world.specs.declared.command.CommandChange.TheVariants.{Revo
 ghost use Rattle.dh_world.specs.declared.command.CommandChange.TheVariants.{DropRule};
 ghost use Rattle.dh_listings.specs.declared.words.ListWord.TheVariants.{Projects, OfProject, Seen};
 ghost use Rattle.dh_listings.specs.declared.words.ProjectList.TheVariants as lists;
-ghost use Rattle.dh_word_tables.specs.Words.{is_plain_word, ArePlain, has_command};
+ghost use Rattle.dh_lines.specs.Words.{is_plain_word, ArePlain, has_command};
 ghost use Rattle.dh_lines.specs.App.{docs_app};
 ghost use Rattle.dh_lines.specs.Lines.{line_in, listing, ordering, OrdersLine, OrdersOnVersion, OrdersOnPass};
 ghost use Rattle.dh_lines.specs.Lines.{OrdersOnGrant, OrdersRedirect, OrdersForced, OrdersRule};

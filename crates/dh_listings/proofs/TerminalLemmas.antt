@@ -12,7 +12,7 @@ use Rattle.std.proofs.lemmas.Str.Ascii.{IsAscii-cons, IsAscii-nil}
 use Rattle.percent_encoding.specs.Percent.{percent_encode_byte}
 use Rattle.percent_encoding.proofs.PercentLemmas.{IsByte, percent_decode-nil, percent_decode-percent_encode_byte, percent_decode_not_percent}
 use Rattle.dh_texts.specs.Bytes.{percent}
-use Rattle.dh_paths.specs.Escapes.{escape_of, escaped, is_plain, kept_or_escaped, unescaped}
+use Rattle.dh_texts.specs.Escapes.{escape_of, escaped, is_plain, kept_or_escaped, unescaped}
 use Rattle.dh_world.specs.World.{Text}
 use Rattle.dh_listings.specs.Terminal.{ShownSteersNothing, WordsAreRead, WordsSteerNothing, is_plain_word, row_word, shown, steers, steers_nothing, word_text}
 

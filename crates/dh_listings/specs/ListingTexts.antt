@@ -7,15 +7,15 @@ use Rattle.std.specs.FinMap.{entries, get}
 use Rattle.dh_versions.specs.declared.version.Kind.{Kind}
 use Rattle.dh_versions.specs.declared.version.Kind.TheVariants.{Branch, Tag}
 use Rattle.dh_versions.specs.declared.version.Version.{Version}
-use Rattle.dh_rules.specs.Patterns.{pattern_text}
-use Rattle.dh_rules.specs.declared.rule.Action.{Action}
-use Rattle.dh_rules.specs.declared.rule.Action.TheVariants.{Activate, Hide, Public, Private, Default}
-use Rattle.dh_rules.specs.declared.rule.Rule.{Rule}
+use Rattle.dh_versions.specs.Patterns.{pattern_text}
+use Rattle.dh_versions.specs.declared.rule.Action.{Action}
+use Rattle.dh_versions.specs.declared.rule.Action.TheVariants.{Activate, Hide, Public, Private, Default}
+use Rattle.dh_versions.specs.declared.rule.Rule.{Rule}
 use Rattle.dh_redirects.specs.declared.redirect.RedirectKind.{RedirectKind}
 use Rattle.dh_redirects.specs.declared.redirect.RedirectKind.TheVariants.{Page, Exact, CleanToHtml, HtmlToClean}
 use Rattle.dh_redirects.specs.declared.redirect.Redirect.{Redirect}
-use Rattle.dh_seen.specs.declared.seen_project.SeenProject.{SeenProject}
-use Rattle.dh_seen.specs.declared.seen_project.StoredPage.{StoredPage}
+use Rattle.dh_reads.specs.declared.seen_project.SeenProject.{SeenProject}
+use Rattle.dh_reads.specs.declared.seen_project.StoredPage.{StoredPage}
 use Rattle.dh_world.specs.World.{Text, Project, World, lies_under}
 use Rattle.dh_world.specs.Reads.{host_named, caller_named}
 use Rattle.dh_world.specs.Seen as sight

@@ -2,7 +2,7 @@
 use Rattle.std.specs.Prelude.{◌≡◌, ◌^◌, ◌<◌, ℕ, Bool, true, ◌&&◌, ◌||◌, not, ◌==◌, nat_eq, nat_le, nat_lt, ◌++◌, drop, codes, if◌then◌else◌}
 use Rattle.std.specs.List.{All, list_any, starts_with}
 use Rattle.std.specs.Str.{chars}
-use Rattle.dh_paths.specs.Escapes.{escaped, unescaped}
+use Rattle.dh_texts.specs.Escapes.{escaped, unescaped}
 use Rattle.dh_world.specs.World.{Text}
 
 -- A character that a terminal reads as an order and does not show: a control character (U+0000 to U+001F, U+007F to U+009F); an

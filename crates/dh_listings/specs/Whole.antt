@@ -2,8 +2,8 @@
 use Rattle.std.specs.Prelude.{◌≡◌}
 use Rattle.std.specs.List.{Contains}
 use Rattle.dh_versions.specs.declared.version.Version.{Version}
-use Rattle.dh_seen.specs.declared.seen_project.SeenProject.{SeenProject}
-use Rattle.dh_seen.specs.declared.seen_project.StoredPage.{StoredPage}
+use Rattle.dh_reads.specs.declared.seen_project.SeenProject.{SeenProject}
+use Rattle.dh_reads.specs.declared.seen_project.StoredPage.{StoredPage}
 use Rattle.dh_listings.specs.ListingTexts.{seen_page_words, seen_rows}
 
 -- a page of a version and a language of the project has its row

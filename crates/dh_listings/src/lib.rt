@@ -1,5 +1,4 @@
-//! What list words print: the rows of each list, by definition, functions that make or append one row, and what a terminal may be
-//! shown.
+//! The list words (`list-pages` and others), what they print of a world, and what a terminal may be shown.
 #![tactic(auto)]
 
 mod laws;

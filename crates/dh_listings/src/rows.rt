@@ -4,10 +4,9 @@ ghost use Rattle.std.specs.Prelude.{◌≡◌, ◌∷◌, ◌++◌, IfOk, OnOk, 
 ghost use Rattle.dh_listings.specs.ListingTexts as spec;
 
 use crate::terminal::row_word;
-use dh_paths::{HostName, Lang, PagePath, RefName, Slug, Text, Token};
 use dh_redirects::{Redirect, RedirectKind};
-use dh_rules::{Action, Rule};
-use dh_versions::{Kind, Version};
+use dh_texts::{HostName, Lang, PagePath, RefName, Slug, Text, Token};
+use dh_versions::{Action, Kind, Rule, Version};
 use dh_world::PassEnd;
 use std::alloc::{AllocError, Global};
 

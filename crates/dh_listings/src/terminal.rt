@@ -3,7 +3,7 @@
 ghost use Rattle.std.specs.Prelude.{◌≡◌, IfOk, string_bytes};
 ghost use Rattle.dh_listings.specs.Terminal as spec;
 
-use dh_paths::encode_path;
+use dh_texts::encode_path;
 use std::alloc::{AllocError, Global};
 
 /// Whether a terminal reads a character as an order and does not show it: a control character, an end of a line or a paragraph, or

@@ -1,6 +1,6 @@
 //! What list words ask for.
 
-use dh_paths::Text;
+use dh_texts::Text;
 
 /// What a list word asks for. Its texts are unchecked: under a text that is no host's name there is no project.
 #[derive(Drop)]

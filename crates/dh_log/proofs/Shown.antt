@@ -5,7 +5,7 @@ use Rattle.std.specs.Fmt.{digit_glyph}
 use Rattle.std.specs.List.{All, flat_map}
 use Rattle.std.proofs.lemmas.Bool.Decides.{nat_tests}
 use Rattle.std.proofs.lemmas.List.Elements.{All-append, All-cons, All-head, All-nil, All-tail}
-use Rattle.dh_paths.specs.Escapes.{escape_of, escaped, is_plain, kept_or_escaped}
+use Rattle.dh_texts.specs.Escapes.{escape_of, escaped, is_plain, kept_or_escaped}
 use Rattle.dh_log.specs.Lines.{IsVisible, shown}
 
 glyph_low : (d : ℕ) → d < 16 → 33 ≤ digit_glyph true d

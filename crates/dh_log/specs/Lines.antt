@@ -2,7 +2,7 @@
 use Rattle.std.specs.Prelude.{ℕ, ◌^◌, ◌<◌, ◌≤◌, Bool, List, [], ◌++◌, length, codes, nat_eq, if◌then◌else◌}
 use Rattle.std.specs.Fmt.{decimal}
 use Rattle.std.specs.List.{All}
-use Rattle.dh_paths.specs.Escapes.{escaped}
+use Rattle.dh_texts.specs.Escapes.{escaped}
 use Rattle.dh_log.specs.declared.entry.About.{About}
 use Rattle.dh_log.specs.declared.entry.Entry.{Entry}
 use Rattle.dh_log.specs.declared.entry.Level.{Level}

@@ -4,7 +4,7 @@ ghost use Rattle.std.specs.Prelude.{◌≡◌, ◌++◌, codes, IfOk, OnOk};
 ghost use Rattle.std.specs.Fmt.{decimal};
 ghost use Rattle.dh_log.specs.Lines as spec;
 
-use dh_paths::encode_path;
+use dh_texts::encode_path;
 use std::alloc::{AllocError, Global};
 
 /// How grave it is what a line tells, as syslog and the journal count it.

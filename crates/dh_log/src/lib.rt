@@ -1,5 +1,4 @@
-//! The log of a server: the text of a line, what of a request or an order may stand in it, and the writer, which counts the lines
-//! that were lost.
+//! The log: its lines, what of a request or an order they may tell, and which were lost.
 #![tactic(auto)]
 
 mod entries;

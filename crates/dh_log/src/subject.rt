@@ -6,7 +6,7 @@ ghost use Rattle.dh_log.specs.Subjects as spec;
 ghost use Rattle.dh_log.specs.Subjects.{IsOrderSubject, IsPostSubject, IsSubject, NotesNothing, NotesPost};
 
 use crate::entry::Level;
-use dh_paths::Text;
+use dh_texts::Text;
 use dh_world::{Command, CommandChange, Refusal};
 use std::alloc::{AllocError, Global};
 

@@ -9,9 +9,9 @@ use Rattle.dh_ports.specs.declared.fault.Fault.TheVariants as fault
 use Rattle.dh_ports.specs.Faults.{OnStore}
 use Rattle.dh_rows.specs.Calls.{MakesNoCommitInside, IsBlamed, IsHonest, IsRefused, Keep, KeepsFaults, LeavesNoMore, LeavesSeen, OnlyBegins, OnlyCommits, ShowsHonestly, whole}
 use Rattle.dh_records.specs.Constraints.{AreInOrder, KeepsConstraints}
-use Rattle.dh_schema.specs.InTurn.{blamed_before, lasts_none, lasts_on}
-use Rattle.dh_schema.specs.Tables.{HoldsTables, lists_of}
-use Rattle.dh_migrating.specs.Converting.{CarriesTo}
+use Rattle.dh_records.specs.InTurn.{blamed_before, lasts_none, lasts_on}
+use Rattle.dh_records.specs.Tables.{HoldsTables, lists_of}
+use Rattle.dh_opening.specs.Converting.{CarriesTo}
 use Rattle.dh_tables.proofs.OrderLemmas.{in_order}
 use Rattle.dh_opening.specs.declared.fault.TablesFault.{TablesFault}
 use Rattle.dh_opening.specs.declared.fault.TablesFault.TheVariants.{NotOurs, OldSchema, Failed}

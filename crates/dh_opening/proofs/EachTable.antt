@@ -13,7 +13,7 @@ use Rattle.dh_records.specs.Typed.{IsProject, IsLanguage, IsVersion, IsPage, IsU
 use Rattle.dh_records.specs.declared.records.AliasRow.{AliasRow}
 use Rattle.dh_records.specs.declared.records.RouteRow.{RouteRow}
 use Rattle.dh_records.specs.declared.records.PassRow.{PassRow}
-use Rattle.dh_schema.specs.Tables.{HoldsTables, lists_of, meta, meta_table, alias_table, route_table, project_table, lang_table, version_table, page_table, used_table, pick_table, pass_table, holds_table, rule_table, redirect_table}
+use Rattle.dh_records.specs.Tables.{HoldsTables, lists_of, meta, meta_table, alias_table, route_table, project_table, lang_table, version_table, page_table, used_table, pick_table, pass_table, holds_table, rule_table, redirect_table}
 use Rattle.dh_opening.specs.Filling.{IsNotDerived}
 use Rattle.dh_opening.specs.Opening.{AreSpelled, StandFor}
 use Rattle.dh_opening.specs.OurTables.{OfEach, other_tables}

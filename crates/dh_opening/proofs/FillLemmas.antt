@@ -23,12 +23,12 @@ use Rattle.dh_records.specs.Typed.{IsPass, IsAlias, IsRoute}
 use Rattle.dh_records.specs.declared.records.AliasRow.{AliasRow}
 use Rattle.dh_records.specs.declared.records.RouteRow.{RouteRow}
 use Rattle.dh_records.proofs.BaseLemmas.{constraints_of_base}
-use Rattle.dh_schema.specs.Making.{BuildsTables, GoesOn, IsAdded, added_tables, derived_tables}
-use Rattle.dh_schema.specs.Tables.{lists_of, meta, meta_table, alias_table, route_table, pass_table}
-use Rattle.dh_schema.specs.InTurn.{goes_anywhere, goes_none}
-use Rattle.dh_migrating.specs.Converting.{CarriesTo, IsConverted, SparesOthers}
-use Rattle.dh_migrating.proofs.StepLemmas.{carried_as, carried_on, true_then, was_honest}
-use Rattle.dh_migrating.specs.OldPasses.{IsOldPass, old_lists_of, without_end}
+use Rattle.dh_records.specs.Making.{BuildsTables, GoesOn, IsAdded, added_tables, derived_tables}
+use Rattle.dh_records.specs.Tables.{lists_of, meta, meta_table, alias_table, route_table, pass_table}
+use Rattle.dh_records.specs.InTurn.{goes_anywhere, goes_none}
+use Rattle.dh_opening.specs.Converting.{CarriesTo, IsConverted, SparesOthers}
+use Rattle.dh_opening.proofs.StepLemmas.{carried_as, carried_on, true_then, was_honest}
+use Rattle.dh_opening.specs.OldPasses.{IsOldPass, old_lists_of, without_end}
 use Rattle.dh_opening.specs.Dropping.{DropsIt}
 use Rattle.dh_opening.specs.Opening.{AreSpelled, CanDrop, HasDerived, IsDerivedBy, IsOurs}
 use Rattle.dh_opening.specs.OurTables.{OfEach, other_tables}

@@ -1,3 +1,4 @@
+pub mod StepLemmas
 pub mod Rising
 pub mod KeptLemmas
 pub mod Looks

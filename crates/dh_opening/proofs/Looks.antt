@@ -12,7 +12,7 @@ use Rattle.dh_ports.specs.declared.fault.Fault.TheVariants as fault
 use Rattle.dh_rows.specs.Calls.{AreRows, StoreFaultHasCause, FindsSuch, IsHonest, IsUnfit, OnlyLooks}
 use Rattle.dh_rows.specs.Shapes.{StandsAlone}
 use Rattle.sqlite_schema.specs.declared.schema.Table.{Table}
-use Rattle.dh_schema.specs.InTurn.{blamed_before, goes_none, goes_on, same_none, same_on, refused_on}
+use Rattle.dh_records.specs.InTurn.{blamed_before, goes_none, goes_on, same_none, same_on, refused_on}
 use Rattle.dh_opening.specs.declared.fault.TablesFault.{TablesFault}
 use Rattle.dh_opening.specs.declared.fault.TablesFault.TheVariants.{NotOurs, OldSchema, Failed}
 use Rattle.dh_opening.specs.Opening.{AnswersQuery, AreLaid, IsWhole, OnNotOurs, OnFailed, JudgesTables}

@@ -7,16 +7,16 @@ use Rattle.sqlite.specs.Held.{Held, state}
 use Rattle.sqlite.specs.State.{HasCleanDisk}
 use Rattle.dh_ports.specs.declared.fault.Fault.{Fault}
 use Rattle.dh_rows.specs.Calls.{IsHonest}
-use Rattle.dh_schema.specs.InTurn.{goes_anywhere}
+use Rattle.dh_records.specs.InTurn.{goes_anywhere}
 use Rattle.dh_records.specs.Codings as coding
 use Rattle.dh_records.specs.Constraints.{InOrder, KeepsConstraints}
 use Rattle.dh_records.specs.Lists.{Lists, base_of}
 use Rattle.dh_records.specs.declared.records.PassRow.{PassRow}
-use Rattle.dh_schema.specs.Tables.{HoldsTables, lists_of}
-use Rattle.dh_migrating.proofs.StepLemmas.{carried_as, carried_on}
-use Rattle.dh_migrating.specs.Converting.{CarriesTo, IsConvertible, IsConverted}
-use Rattle.dh_migrating.specs.OldPasses.{IsOldPass, old_lists_of, old_passes, without_end}
-use Rattle.dh_migrating.specs.declared.old_pass.OldPassRow.{OldPassRow}
+use Rattle.dh_records.specs.Tables.{HoldsTables, lists_of}
+use Rattle.dh_opening.proofs.StepLemmas.{carried_as, carried_on}
+use Rattle.dh_opening.specs.Converting.{CarriesTo, IsConvertible, IsConverted}
+use Rattle.dh_opening.specs.OldPasses.{IsOldPass, old_lists_of, old_passes, without_end}
+use Rattle.dh_opening.specs.declared.old_pass.OldPassRow.{OldPassRow}
 use Rattle.dh_opening.specs.Opening.{AreKeptIn, IsDerivedBy, IsNumbered, IsOurs, MayDerive, StandFor, JudgesTables}
 use Rattle.dh_opening.specs.Filling.{IsFilled}
 use Rattle.dh_opening.specs.Migrating.{AreOldIn, IsMigrated, IsOld, IsShown}

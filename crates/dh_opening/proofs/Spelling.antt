@@ -13,8 +13,8 @@ use Rattle.dh_records.specs.Codings.{aliases, passes, routes}
 use Rattle.dh_records.specs.Typed.{IsAlias, IsPass, IsRoute}
 use Rattle.dh_records.specs.declared.records.AliasRow.{AliasRow}
 use Rattle.dh_records.specs.declared.records.RouteRow.{RouteRow}
-use Rattle.dh_schema.specs.Making.{derived_tables}
-use Rattle.dh_schema.specs.Tables.{lists_of, meta, meta_table, pass_table}
+use Rattle.dh_records.specs.Making.{derived_tables}
+use Rattle.dh_records.specs.Tables.{lists_of, meta, meta_table, pass_table}
 use Rattle.dh_opening.specs.Opening.{AreKeptIn, AreSpelled, CanDeriveAnew, HasDerived, IsDerivedBy, IsNumbered, IsOurs, IsSpelledBy, MayDerive, StandFor}
 use Rattle.dh_opening.specs.OurTables.{other_tables}
 use Rattle.dh_opening.specs.Filling.{LacksDerived}

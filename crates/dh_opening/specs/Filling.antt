@@ -11,8 +11,8 @@ use Rattle.dh_rows.specs.Calls.{IsBlamed, IsHonest, KeepsFaults, LeavesNoMore, L
 use Rattle.dh_rows.specs.Places.{StandsInSchema, rows_of}
 use Rattle.dh_records.specs.Constraints.{KeepsConstraints}
 use Rattle.dh_records.specs.Lists.{Lists, base_of}
-use Rattle.dh_schema.specs.Making.{added_tables, derived_tables}
-use Rattle.dh_schema.specs.Tables.{HoldsTables, lists_of}
+use Rattle.dh_records.specs.Making.{added_tables, derived_tables}
+use Rattle.dh_records.specs.Tables.{HoldsTables, lists_of}
 use Rattle.dh_opening.specs.declared.fault.TablesFault.{TablesFault}
 use Rattle.dh_opening.specs.declared.fault.TablesFault.TheVariants.{NotOurs, OldSchema, Failed}
 use Rattle.dh_opening.specs.Opening.{HasDerived, IsNumbered, IsOurs, OnFailed, OnNotOurs, OnOldSchema}

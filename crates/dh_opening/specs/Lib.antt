@@ -1,3 +1,5 @@
+pub mod OldPasses
+pub mod Converting
 pub mod Rows
 pub mod OurTables
 pub mod Opening

@@ -8,9 +8,9 @@ use Rattle.sqlite.specs.Held.{Held, state}
 use Rattle.dh_rows.specs.Places.{records_of}
 use Rattle.dh_rows.specs.Shapes.{StandsAlone}
 use Rattle.dh_records.specs.Lists.{Lists, base_of}
-use Rattle.dh_schema.specs.Tables.{lists_of}
-use Rattle.dh_migrating.specs.Converting.{CanConvert}
-use Rattle.dh_migrating.specs.OldPasses.{old_pass_table, old_passes, old_lists_of, IsOldPass}
+use Rattle.dh_records.specs.Tables.{lists_of}
+use Rattle.dh_opening.specs.Converting.{CanConvert}
+use Rattle.dh_opening.specs.OldPasses.{old_pass_table, old_passes, old_lists_of, IsOldPass}
 use Rattle.dh_opening.specs.declared.fault.TablesFault.{TablesFault}
 use Rattle.dh_opening.specs.Opening.{AreKeptIn, IsNumbered, IsOurs, MayDerive, OnOldSchema, StandFor}
 use Rattle.dh_opening.specs.OurTables.{other_tables}

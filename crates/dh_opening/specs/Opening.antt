@@ -21,8 +21,8 @@ use Rattle.dh_records.specs.Lists.{Lists, base_of}
 use Rattle.dh_records.specs.Typed.{IsPass, IsAlias, IsRoute}
 use Rattle.sqlite_schema.specs.declared.schema.Schema.{Schema}
 use Rattle.sqlite_schema.specs.declared.schema.Table.{Table}
-use Rattle.dh_schema.specs.Tables.{lists_of, meta, meta_table, pass_table}
-use Rattle.dh_schema.specs.Making.{derived_tables}
+use Rattle.dh_records.specs.Tables.{lists_of, meta, meta_table, pass_table}
+use Rattle.dh_records.specs.Making.{derived_tables}
 use Rattle.dh_ports.specs.declared.fault.Fault.TheVariants as fault
 use Rattle.dh_opening.specs.declared.fault.TablesFault.{TablesFault}
 use Rattle.dh_opening.specs.declared.fault.TablesFault.TheVariants.{NotOurs, OldSchema, Failed}

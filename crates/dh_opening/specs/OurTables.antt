@@ -8,9 +8,9 @@ use Rattle.dh_rows.proofs.Whole.{AreTextsOf, IsCodingOf}
 use Rattle.dh_records.specs.Codings as coding
 use Rattle.dh_records.specs.Lists.{Lists}
 use Rattle.dh_records.specs.Typed.{IsProject, IsLanguage, IsVersion, IsPage, IsUsed, IsPick, IsHeld, IsRule, IsRedirect}
-use Rattle.dh_schema.specs.Tables.{meta, meta_table, project_table, lang_table, version_table, page_table, used_table, pick_table, pass_table, holds_table, rule_table, redirect_table, alias_table, route_table}
-use Rattle.dh_schema.specs.ColumnLemmas as columns
-use Rattle.dh_migrating.specs.OldPasses.{old_pass_table, old_passes}
+use Rattle.dh_records.specs.Tables.{meta, meta_table, project_table, lang_table, version_table, page_table, used_table, pick_table, pass_table, holds_table, rule_table, redirect_table, alias_table, route_table}
+use Rattle.dh_records.specs.ColumnLemmas as columns
+use Rattle.dh_opening.specs.OldPasses.{old_pass_table, old_passes}
 
 -- our tables but those of the number, of passes and of derived records, in the order in which they are made
 abbrev pub other_tables : List Table

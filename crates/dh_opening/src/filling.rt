@@ -5,7 +5,7 @@ ghost use Rattle.sqlite.specs.Held.{state};
 ghost use Rattle.sqlite.specs.State.{HasCleanDisk};
 ghost use Rattle.dh_rows.specs.Calls.{IsHonest, KeepsFaults};
 ghost use Rattle.dh_rows.specs.Shapes.{table_of};
-ghost use Rattle.dh_migrating.specs.Converting.{CarriesTo, SparesOthers};
+ghost use Rattle.dh_opening.specs.Converting.{CarriesTo, SparesOthers};
 ghost use Rattle.dh_opening.specs.Dropping.{DropsIt};
 ghost use Rattle.dh_opening.specs.Opening.{IsDerivedBy, IsOurs, OnNotOurs, OnOldSchema};
 ghost use Rattle.dh_opening.specs.Filling.{AreMadeAnew, BringsBy, IsAtRest, IsFilled, IsOpened, LacksDerived, LeavesOpened};
@@ -14,8 +14,8 @@ use crate::fault::TablesFault;
 use crate::our_tables::{ALIAS, ROUTE};
 use crate::shapes::can_drop;
 use dh_ports::Fault;
+use dh_records::{can_add, make_derived};
 use dh_rows::{Shape, begin, change, commit, keeps_counts};
-use dh_schema::{can_add, make_derived};
 use sqlite::{Alter, Connection};
 
 /// Drops the table of a shape, which is what the statement does, where it stands alone; else does nothing.

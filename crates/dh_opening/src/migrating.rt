@@ -7,11 +7,11 @@ ghost use Rattle.sqlite.specs.State.{HasCleanDisk};
 ghost use Rattle.dh_rows.specs.Calls.{MakesNoCommitInside, IsBlamed, IsHonest, KeepsFaults, LeavesCommitted, committed, seen_now};
 ghost use Rattle.dh_records.specs.Codings.{passes};
 ghost use Rattle.dh_records.specs.Constraints.{AreInOrder, InOrder, KeepsConstraints};
-ghost use Rattle.dh_schema.specs.Making.{CommitsNothing};
-ghost use Rattle.dh_schema.specs.Tables.{lists_of};
+ghost use Rattle.dh_records.specs.Making.{CommitsNothing};
+ghost use Rattle.dh_records.specs.Tables.{lists_of};
 ghost use Rattle.dh_constraints.specs.Lists.{lists_in};
-ghost use Rattle.dh_migrating.specs.Converting.{CarriesTo, IsConverted, IsConvertible};
-ghost use Rattle.dh_migrating.specs.OldPasses.{old_lists_of};
+ghost use Rattle.dh_opening.specs.Converting.{CarriesTo, IsConverted, IsConvertible};
+ghost use Rattle.dh_opening.specs.OldPasses.{old_lists_of};
 ghost use Rattle.dh_opening.specs.Opening.{IsDerivedBy, IsNumbered, IsOurs, OnFailed, OnNotOurs, OnOldSchema, JudgesTables};
 ghost use Rattle.dh_opening.specs.Filling.{IsAtRest, IsFilled};
 ghost use Rattle.dh_records.specs.declared.records.PageRow.{PageRow};
@@ -21,13 +21,14 @@ ghost use Rattle.dh_opening.specs.Migrating.{IsBehind, IsMigrated, IsOld, IsShow
 
 use crate::fault::TablesFault;
 use crate::filling::{complete, fill};
+use crate::old_pass::{OldPassRow, without_ends};
 use crate::opening::{
     FoundTables, check_database, check_derived, finish, kept_records, show_settled,
 };
 use crate::shapes::are_old;
+use crate::steps::convert;
 use crate::tables::read_table;
 use dh_constraints::Records;
-use dh_migrating::{OldPassRow, convert, without_ends};
 use dh_ports::Fault;
 use dh_records::PassRow;
 use dh_rows::{begin, commit};

@@ -5,7 +5,7 @@ ghost use Rattle.sqlite_value.specs.Order.{column};
 ghost use Rattle.dh_ports.specs.Faults.{OnStore};
 ghost use Rattle.dh_records.specs.Codings.{number_in};
 ghost use Rattle.dh_records.specs.Typed.{IsNumber};
-ghost use Rattle.dh_schema.specs.Tables as spec;
+ghost use Rattle.dh_records.specs.Tables as spec;
 ghost use Rattle.dh_opening.specs.OurTables as ours;
 
 use crate::kept::{Kept, Layout};

@@ -1,7 +1,7 @@
 //! Our tables, each with the test whether a row of it keeps a record.
 
 ghost use Rattle.std.specs.Prelude.{[], ◌∷◌};
-ghost use Rattle.dh_schema.specs.Tables as spec;
+ghost use Rattle.dh_records.specs.Tables as spec;
 ghost use Rattle.dh_opening.specs.OurTables as ours;
 
 use crate::kept::{Kept, Layout};

@@ -3,18 +3,18 @@
 ghost use Rattle.std.specs.Prelude.{◌↔◌, ◌∷◌, IsTrue};
 ghost use Rattle.std.specs.List.{AllByRecursion};
 ghost use Rattle.dh_rows.specs.Shapes.{StandsAlone, table_of};
-ghost use Rattle.dh_schema.specs.Making.{derived_tables};
-ghost use Rattle.dh_schema.specs.Tables.{meta_table, pass_table};
-ghost use Rattle.dh_migrating.specs.OldPasses.{old_pass_table};
+ghost use Rattle.dh_records.specs.Making.{derived_tables};
+ghost use Rattle.dh_records.specs.Tables.{meta_table, pass_table};
+ghost use Rattle.dh_opening.specs.OldPasses.{old_pass_table};
 ghost use Rattle.dh_opening.specs.Migrating.{AreOldIn};
 ghost use Rattle.dh_opening.specs.Opening.{CanDeriveAnew, CanDrop, CanMakeAnew};
 ghost use Rattle.dh_opening.specs.OurTables.{other_tables};
 
 use crate::kept::Layout;
+use crate::kept_old_pass::OLD_PASS;
 use crate::number::META;
-use crate::old_pass::OLD_PASS;
 use crate::our_tables::{ALIAS, OTHERS, PASS, ROUTE};
-use dh_migrating::can_convert;
+use crate::steps::can_convert;
 use dh_rows::{Shape, is_free, is_table, is_unmentioned, keeps_counts};
 use sqlite_schema::schema::Schema;
 

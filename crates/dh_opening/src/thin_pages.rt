@@ -10,9 +10,9 @@ ghost use Rattle.dh_opening.specs.ThinPages.{FindsNext, IsFit, KeepsFit, TookPag
 use crate::gathering::Taker;
 use crate::kept::record_in;
 use crate::rows::is_next;
-use dh_paths::Bytes;
+use dh_reads::Page;
 use dh_records::PageRow;
-use dh_seen::Page;
+use dh_texts::Bytes;
 use dh_world::is_content;
 use sqlite::Row;
 use std::alloc::{AllocError, Global};

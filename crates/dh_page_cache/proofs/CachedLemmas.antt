@@ -10,7 +10,7 @@ use Rattle.lru.specs.LruCache.{LruCache, lru_cache, promoted, put_entries}
 use Rattle.lru.proofs.Splits.{Contains-nil}
 use Rattle.lru.proofs.Pairs.{lookup-lookup_entry}
 use Rattle.lru.proofs.CallerLemmas.{Contains-lookup, Contains-promoted, Contains-put_entries, Contains-take}
-use Rattle.dh_seen.specs.declared.found.Page.{Page}
+use Rattle.dh_reads.specs.declared.found.Page.{Page}
 use Rattle.dh_page_cache.specs.declared.key.PageKey.{PageKey}
 use Rattle.dh_page_cache.specs.Keys.{KeyTexts, texts_of}
 use Rattle.dh_page_cache.specs.Cached.{IsCached, Pages, pairs_in, room_of}

@@ -3,7 +3,7 @@ use Rattle.std.specs.Prelude.{◌≡◌, ℕ, ◌+◌, List, [], Option, Some, N
 use Rattle.std.specs.List.{sum_by}
 use Rattle.std.specs.Map.{values_of}
 use Rattle.lru.specs.LruCache.{LruCache}
-use Rattle.dh_seen.specs.declared.found.Page.{Page}
+use Rattle.dh_reads.specs.declared.found.Page.{Page}
 use Rattle.dh_page_cache.specs.declared.cache.TheConstants.{PAGE_ROOM}
 use Rattle.dh_page_cache.specs.declared.key.PageKey.{PageKey}
 use Rattle.dh_page_cache.specs.Keys.{KeyTexts, texts_of}

@@ -5,8 +5,8 @@ ghost use Rattle.dh_page_cache.specs.Keys.{texts_of};
 ghost use Rattle.dh_page_cache.specs.declared.cache.TheConstants.{MOST_CACHED_BYTES};
 
 use crate::key::PageKey;
-use dh_paths::Text;
-use dh_seen::Page;
+use dh_reads::Page;
+use dh_texts::Text;
 use lru::LruCache;
 use std::alloc::{AllocError, Global};
 use std::num::NonZeroUsize;

@@ -2,7 +2,7 @@
 ghost use Rattle.std.specs.Prelude.{◌≡◌, IfOk};
 ghost use Rattle.dh_page_cache.specs.Keys.{key_texts, texts_of};
 
-use dh_paths::{HostName, Lang, Slug};
+use dh_texts::{HostName, Lang, Slug};
 use std::alloc::{AllocError, Global};
 
 /// The host, the version, the language and the path of a page. Two keys are equal where these texts are.

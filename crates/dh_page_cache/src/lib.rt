@@ -1,4 +1,4 @@
-//! Pages of the tables that are kept in memory, each for its host, version, language and path.
+//! Pages that are kept in memory, by host, version, language and path.
 #![tactic(auto)]
 
 pub mod cache;

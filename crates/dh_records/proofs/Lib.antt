@@ -18,3 +18,5 @@ pub mod PlaceLemmas
 pub mod RuleLemmas
 pub mod RedirectLemmas
 pub mod BaseLemmas
+pub mod CallLemmas
+pub mod Made

@@ -2,7 +2,7 @@
 use Rattle.std.proofs.Common.{◌≡◌, ℕ, Option, List, map, refl}
 use Rattle.std.proofs.lemmas.Map.Lookups.{exact_bytes}
 use Rattle.dh_versions.specs.declared.version.Version.{Version}
-use Rattle.dh_seen.specs.declared.found.Page.{Page}
+use Rattle.dh_reads.specs.declared.found.Page.{Page}
 use Rattle.dh_world.specs.declared.answer.Answer.{Answer}
 use Rattle.dh_records.specs.declared.records.ProjectRow.{ProjectRow}
 use Rattle.dh_records.specs.declared.records.LangRow.{LangRow}

@@ -1,7 +1,7 @@
 -- The lists with a record more, or with fewer.
 use Rattle.std.specs.Prelude.{ℕ, not, filter, List, Option}
 use Rattle.dh_rows.specs.Keyed.{added, put}
-use Rattle.dh_rules.specs.declared.rule.Rule.{Rule}
+use Rattle.dh_versions.specs.declared.rule.Rule.{Rule}
 use Rattle.dh_redirects.specs.declared.redirect.Redirect.{Redirect}
 use Rattle.dh_world.specs.World.{Text}
 use Rattle.dh_records.specs.Codings as coding

@@ -10,11 +10,11 @@ use Rattle.sqlite.specs.Values.{bound}
 use Rattle.dh_rows.specs.Keyed.{Coding, flag, is_set}
 use Rattle.dh_versions.specs.declared.version.Kind.{Kind}
 use Rattle.dh_versions.specs.declared.version.Kind.TheVariants.{Branch, Tag}
-use Rattle.dh_rules.specs.Patterns.{pattern_text}
-use Rattle.dh_rules.specs.declared.pattern.Pattern.{Pattern}
-use Rattle.dh_rules.specs.declared.pattern.Pattern.TheVariants.{All, SemVer, Custom}
-use Rattle.dh_rules.specs.declared.rule.Action.{Action}
-use Rattle.dh_rules.specs.declared.rule.Action.TheVariants.{Activate, Hide, Public, Private, Default}
+use Rattle.dh_versions.specs.Patterns.{pattern_text}
+use Rattle.dh_versions.specs.declared.pattern.Pattern.{Pattern}
+use Rattle.dh_versions.specs.declared.pattern.Pattern.TheVariants.{All, SemVer, Custom}
+use Rattle.dh_versions.specs.declared.rule.Action.{Action}
+use Rattle.dh_versions.specs.declared.rule.Action.TheVariants.{Activate, Hide, Public, Private, Default}
 use Rattle.dh_redirects.specs.declared.redirect.RedirectKind.{RedirectKind}
 use Rattle.dh_redirects.specs.declared.redirect.RedirectKind.TheVariants.{Page, Exact, CleanToHtml, HtmlToClean}
 use Rattle.dh_records.specs.declared.records.ProjectRow.{ProjectRow}

@@ -8,7 +8,7 @@ use Rattle.std.specs.FinMap.{is_sorted}
 use Rattle.sqlite_value.specs.Order.{Row}
 use Rattle.sqlite_trees.specs.Tree.{IsAscending}
 use Rattle.dh_texts.specs.SlugOfName.{slug_from}
-use Rattle.dh_rules.specs.Rules.{is_allowed}
+use Rattle.dh_versions.specs.Rules.{is_allowed}
 use Rattle.dh_redirects.specs.Redirects.{first_fault}
 use Rattle.dh_rows.specs.Keyed.{by_key}
 use Rattle.dh_world.specs.Answers.{tells}

@@ -3,3 +3,8 @@ pub mod Lists
 pub mod Typed
 pub mod Constraints
 pub mod Changes
+pub mod Tables
+pub mod ColumnLemmas
+pub mod Calling
+pub mod InTurn
+pub mod Making

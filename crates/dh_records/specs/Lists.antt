@@ -6,7 +6,7 @@ use Rattle.std.specs.FinMap.{from_entries}
 use Rattle.sqlite_value.specs.Order.{Row}
 use Rattle.dh_rows.specs.Keyed.{added, put}
 use Rattle.dh_records.specs.Codings as coding
-use Rattle.dh_rules.specs.declared.rule.Rule.{Rule}
+use Rattle.dh_versions.specs.declared.rule.Rule.{Rule}
 use Rattle.dh_redirects.specs.declared.redirect.Redirect.{Redirect}
 use Rattle.dh_world.specs.declared.answer.Answer.{Answer}
 use Rattle.dh_world.specs.declared.answer.Answer.TheVariants.{Done}

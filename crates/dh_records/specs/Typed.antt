@@ -5,8 +5,8 @@ use Rattle.sqlite_value.specs.declared.value.Value.TheVariants.{Int, Text, Blob}
 use Rattle.sqlite_value.specs.Order.{Row, column}
 use Rattle.sqlite.specs.Values.{IsInt}
 use Rattle.dh_texts.specs.Texts.{is_host_name, is_lang, is_page_path, is_ref_name, is_slug, is_token}
-use Rattle.dh_rules.specs.Patterns.{pattern_text}
-use Rattle.dh_rules.specs.declared.pattern.Pattern.{Pattern}
+use Rattle.dh_versions.specs.Patterns.{pattern_text}
+use Rattle.dh_versions.specs.declared.pattern.Pattern.{Pattern}
 use Rattle.dh_world.specs.declared.answer.Answer.{Answer}
 use Rattle.dh_world.specs.Answers.{IsAnswer, json_of}
 use Rattle.dh_ports.specs.Faults.{OnStore}

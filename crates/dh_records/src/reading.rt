@@ -15,14 +15,12 @@ use crate::records::{
     AliasName, AliasRow, DefaultRow, GrantRow, LangRow, PageRow, PassRow, ProjectRow, RedirectRow,
     RetryRow, Route, RouteRow, RuleRow, VersionRow,
 };
-use dh_paths::{Bytes, Text, TextFault};
 use dh_ports::{Fault, Found};
+use dh_reads::Page;
 use dh_redirects::{Redirect, RedirectKind};
 use dh_rows::fault_of;
-use dh_rules::{Action, Pattern, Rule};
-use dh_seen::Page;
-use dh_texts::{Checked, Kind};
-use dh_versions::{Kind as VersionKind, Version};
+use dh_texts::{Bytes, Checked, Kind, Text, TextFault};
+use dh_versions::{Action, Kind as VersionKind, Pattern, Rule, Version};
 use dh_world::{Answer, Operation, PassEnd};
 use sqlite::{Error, Row};
 use std::alloc::Global;

@@ -4,11 +4,10 @@ ghost use Rattle.std.specs.Prelude.{◌≡◌, option_map};
 ghost use Rattle.dh_records.specs.Codings as coding;
 ghost use Rattle.dh_records.specs.Lists as spec;
 
-use dh_paths::{HostName, Lang, PagePath, RefName, Slug, Text, Token};
+use dh_reads::Page;
 use dh_redirects::{Redirect, RedirectKind};
-use dh_rules::{Action, Rule};
-use dh_seen::Page;
-use dh_versions::{Kind, Version};
+use dh_texts::{HostName, Lang, PagePath, RefName, Slug, Text, Token};
+use dh_versions::{Action, Kind, Rule, Version};
 use dh_world::{Operation, PassEnd};
 
 /// A project, but for its lists.

@@ -7,8 +7,8 @@ use Rattle.std.proofs.lemmas.Str.Pattern.{drop_at_char, strip_prefix_char}
 use Rattle.percent_encoding.specs.AsciiSet.{should_percent_encode}
 use Rattle.percent_encoding.specs.Percent.{percent_encode}
 use Rattle.percent_encoding.proofs.PercentLemmas.{IsByte}
-use Rattle.dh_paths.specs.Escapes.{escaped}
-use Rattle.dh_paths.proofs.EscapeLemmas.{EscapesBut, percent_encode-kept}
+use Rattle.dh_texts.specs.Escapes.{escaped}
+use Rattle.dh_texts.proofs.EscapeLemmas.{EscapesBut, percent_encode-kept}
 use Rattle.dh_redirects.specs.declared.fill.TheConstants.{UNSENT}
 use Rattle.dh_redirects.specs.Locations.{is_sent, sent, after_colon, colon_parts, filled}
 

@@ -2,7 +2,7 @@
 use Rattle.std.proofs.Common.{◌≡◌, ℕ, true, false, cond, ◌==◌, List, [], ◌∷◌, ◌++◌, length, drop, codes, nat_eq, refl, sym, ap, ◌∙◌, append_assoc}
 use Rattle.std.specs.List.{starts_with, onto_first, flat_map}
 use Rattle.std.proofs.lemmas.Bool.Decides.{Decides-eqb}
-use Rattle.dh_paths.specs.Escapes.{escaped}
+use Rattle.dh_texts.specs.Escapes.{escaped}
 use Rattle.dh_redirects.specs.Locations.{sent, sent_byte, after_colon, target_joined, colon_parts, filled}
 use Rattle.dh_redirects.proofs.TextLemmas.{starts_front, starts_from}
 

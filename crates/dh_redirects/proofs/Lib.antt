@@ -2,3 +2,4 @@ pub mod TextLemmas
 pub mod FillLemmas
 pub mod LocationLemmas
 pub mod LawLemmas
+pub mod SegmentLemmas

@@ -1,3 +1,4 @@
 pub mod Redirects
 pub mod Locations
 pub mod FirstResult
+pub mod Segments

@@ -4,8 +4,8 @@ use Rattle.std.specs.List.{flat_map, starts_with, ends_with, before_first, prefi
 use Rattle.std.specs.Option.{option_map, option_or, option_and_then, option_eq}
 use Rattle.std.specs.Str.{bytes_eq}
 use Rattle.dh_texts.specs.Bytes.{hash, slash, colon, question, backslash}
-use Rattle.dh_paths.specs.Escapes.{kept_or_escaped, escaped, unescaped}
-use Rattle.dh_paths.specs.Targets.{is_question, query_of}
+use Rattle.dh_texts.specs.Escapes.{kept_or_escaped, escaped, unescaped}
+use Rattle.dh_texts.specs.Targets.{is_question, query_of}
 use Rattle.dh_texts.specs.Texts.{rest_after}
 use Rattle.dh_redirects.specs.declared.redirect.RedirectKind.{RedirectKind}
 use Rattle.dh_redirects.specs.declared.redirect.RedirectKind.TheVariants.{Page, Exact, CleanToHtml, HtmlToClean}

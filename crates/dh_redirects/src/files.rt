@@ -3,7 +3,7 @@
 ghost use Rattle.std.specs.Prelude.{◌≡◌, IsTrue, IfOk, OnErr, is_some, Some, None, MatchOption};
 ghost use Rattle.dh_redirects.specs.Locations.{stem, html_file, clean_file};
 
-use dh_paths::Text;
+use dh_texts::Text;
 use std::alloc::{AllocError, Global};
 
 /// What stands before the end of a file, where the file has this end and is longer.

@@ -6,7 +6,7 @@ ghost use Rattle.std.specs.Option.{option_copied, option_map_or};
 ghost use Rattle.dh_texts.specs.Bytes.{slash};
 ghost use Rattle.dh_redirects.specs.Locations.{matched, sent, after_colon, colon_parts, filled, one_slash};
 
-use dh_paths::{encode_path, rest_after};
+use dh_texts::{encode_path, rest_after};
 use percent_encoding::{AsciiSet, CONTROLS, ascii_set, utf8_percent_encode};
 use std::alloc::{AllocError, Global};
 

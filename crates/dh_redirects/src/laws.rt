@@ -2,7 +2,7 @@
 
 ghost use Rattle.std.specs.Prelude.{◌≡◌, ℕ, false, List, [], ◌∷◌, ◌++◌, nat_eq};
 ghost use Rattle.std.specs.List.{starts_with};
-ghost use Rattle.dh_paths.specs.Escapes.{escaped};
+ghost use Rattle.dh_texts.specs.Escapes.{escaped};
 ghost use Rattle.dh_redirects.specs.Locations.{filled, sent_byte};
 ghost use Rattle.dh_redirects.specs.Redirects.{splat};
 

@@ -4,7 +4,7 @@ ghost use Rattle.std.specs.Prelude.{◌≡◌, ◌++◌, IfOk, option_map};
 ghost use Rattle.dh_redirects.specs.Redirects as spec;
 
 use crate::redirect::Redirect;
-use dh_paths::Text;
+use dh_texts::Text;
 use std::alloc::{AllocError, Global};
 
 /// What stands before `$rest`, where From ends so.

@@ -7,7 +7,7 @@ ghost use Rattle.dh_redirects.specs.Locations.{without_fragment, path_part, quer
 
 use crate::redirect::Asked;
 use crate::texts::before;
-use dh_paths::same_path;
+use dh_texts::same_path;
 use std::alloc::{AllocError, Global};
 
 fn query_of(text: &str) -> Option<&str>

@@ -5,8 +5,7 @@ ghost use Rattle.std.specs.Result.{result_err};
 ghost use Rattle.dh_redirects.specs.Redirects.{redirect_status_of};
 
 use crate::texts::{absolute, early_star, final_star, holds_splat, path, short_text};
-use dh_paths::{Lang, Slug, Text};
-use dh_texts::read_u16;
+use dh_texts::{Lang, Slug, Text, read_u16};
 use std::alloc::{AllocError, Global};
 use thiserror::Error;
 

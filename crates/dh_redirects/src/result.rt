@@ -8,7 +8,7 @@ use crate::fill::{push_filled, rest_of, single_slash};
 use crate::query::{leads_back, with_query};
 use crate::redirect::{Asked, Location, Parts, Redirect, RedirectKind};
 use crate::texts::path;
-use dh_paths::{Text, encode_path};
+use dh_texts::{Text, encode_path};
 use std::alloc::{AllocError, Global};
 
 /// Writes `/language/version`.

@@ -4,7 +4,7 @@ ghost use Rattle.std.specs.Prelude.{◌≡◌, ◌<◌, ◌==◌, Some};
 ghost use Rattle.std.specs.List.{before_first};
 ghost use Rattle.dh_redirects.specs.Redirects.{splat, has_text, is_path, begins_with_host, is_absolute, is_short_text, ends_in_star, has_early_star};
 
-use dh_paths::{all_no_control, rest_after};
+use dh_texts::{all_no_control, rest_after};
 
 /// What stands before the first mark, or all where there is none.
 pub fn before(text: &str, mark: char) -> &str

@@ -10,17 +10,17 @@ use Rattle.dh_tables.specs.Going.{LooksAtRecords, NowShowsRecords, records}
 use Rattle.dh_world.specs.declared.refusal.Refusal.{Refusal}
 use Rattle.dh_versions.specs.declared.version.Version.{Version}
 use Rattle.dh_world.specs.World.{Text, Project}
-use Rattle.dh_classes.specs.Classes.{versions_for}
-use Rattle.dh_aliases.specs.Names.{names_of}
-use Rattle.dh_aliases.specs.Tops.{stable_version}
-use Rattle.dh_aliases.specs.declared.names.Names.{Names}
-use Rattle.dh_class_names.specs.ClassNames.{AreRowsOf, grants_of}
-use Rattle.dh_class_names.specs.Highest.{IsHighest, IsPublic, IsSeenWith}
-use Rattle.dh_class_names.specs.Find.{FindsInTurn}
-use Rattle.dh_class_names.specs.Rows.{names_by, version_under}
-use Rattle.dh_class_names.proofs.HostLemmas.{rows_of_host}
-use Rattle.dh_class_names.proofs.NamingLemmas.{pass_are}
-use Rattle.dh_class_names.proofs.RowLemmas.{stable_is_public}
+use Rattle.dh_laws.specs.Classes.{versions_for}
+use Rattle.dh_laws.specs.Names.{names_of}
+use Rattle.dh_laws.specs.Tops.{stable_version}
+use Rattle.dh_laws.specs.declared.names.Names.{Names}
+use Rattle.dh_stored_names.specs.ClassNames.{AreRowsOf, grants_of}
+use Rattle.dh_stored_names.specs.Highest.{IsHighest, IsPublic, IsSeenWith}
+use Rattle.dh_stored_names.specs.Find.{FindsInTurn}
+use Rattle.dh_stored_names.specs.Rows.{names_by, version_under}
+use Rattle.dh_stored_names.proofs.HostLemmas.{rows_of_host}
+use Rattle.dh_stored_names.proofs.NamingLemmas.{pass_are}
+use Rattle.dh_stored_names.proofs.RowLemmas.{stable_is_public}
 use Rattle.dh_records.specs.Constraints.{AreSound}
 use Rattle.dh_records.specs.Lists.{Lists, world_of, is_held_by, is_pick_of, is_version, is_version_of}
 use Rattle.dh_records.specs.declared.records.GrantRow.{GrantRow}

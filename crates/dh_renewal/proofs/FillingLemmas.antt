@@ -11,9 +11,9 @@ use Rattle.sqlite.specs.Effect.{Database}
 use Rattle.sqlite.specs.Held.{Held, state}
 use Rattle.sqlite.specs.State.{HasCleanDisk}
 use Rattle.dh_rows.specs.Calls.{AreOurs, MakesNoCommit, MakesNoCommitInside, IsHonest, KeepsCommitted, KeepsFaults, CrashLeaves, LeavesNoMore, OnlyBegins, OnlyCommits, ShowsHonestly, committed, seen_now}
-use Rattle.dh_schema.specs.Calling.{IsSettled}
-use Rattle.dh_schema.specs.InTurn.{goes_anywhere, lasts_on}
-use Rattle.dh_schema.specs.Tables.{HoldsTables, lists_of}
+use Rattle.dh_records.specs.Calling.{IsSettled}
+use Rattle.dh_records.specs.InTurn.{goes_anywhere, lasts_on}
+use Rattle.dh_records.specs.Tables.{HoldsTables, lists_of}
 use Rattle.dh_tables.specs.Going.{NowShowsRecords, last_records, records}
 use Rattle.dh_tables.proofs.Together.{goes_within_on}
 use Rattle.dh_world.specs.declared.refusal.Refusal.{Refusal}
@@ -22,9 +22,9 @@ use Rattle.dh_records.specs.Constraints.{AreSound}
 use Rattle.dh_records.specs.Lists.{Lists, base_of, world_of, project_of, is_alias_at, is_project, is_route_in}
 use Rattle.dh_records.specs.declared.records.ProjectRow.{ProjectRow}
 use Rattle.dh_records.proofs.SeenLemmas.{get_project}
-use Rattle.dh_schema.specs.Making.{no_lists}
-use Rattle.dh_derived.specs.Consistent.{AreConsistent}
-use Rattle.dh_derived.specs.Rightness.{due_at, routes_due, AreRight, AreRightAt}
+use Rattle.dh_records.specs.Making.{no_lists}
+use Rattle.dh_stored_names.specs.Consistent.{AreConsistent}
+use Rattle.dh_stored_names.specs.Rightness.{due_at, routes_due, AreRight, AreRightAt}
 use Rattle.dh_renewal.specs.Filling.{DerivesRows, IsDerived, HasRowsRight}
 use Rattle.dh_renewal.specs.Renewing.{RightOf}
 use Rattle.dh_renewal.proofs.SameBase.{same_world}

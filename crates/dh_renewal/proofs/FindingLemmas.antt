@@ -8,24 +8,24 @@ use Rattle.dh_versions.specs.declared.version.Version.{Version}
 use Rattle.dh_world.specs.Visibility.{may_see}
 use Rattle.dh_world.specs.World.{Text, Project}
 use Rattle.dh_world.specs.declared.refusal.Refusal.{Refusal}
-use Rattle.dh_classes.specs.Classes.{versions_for}
-use Rattle.dh_aliases.specs.Tops.{IsTopIfAny as IsTopOrNone, stable_in, stable_version}
-use Rattle.dh_aliases.proofs.NameLemmas.{stable_name}
-use Rattle.dh_aliases.proofs.PassLemmas.{is_there, seen_named}
-use Rattle.dh_aliases.proofs.TopLemmas.{stable_is_top}
-use Rattle.dh_plans.specs.declared.edits.Edit.{Edit}
-use Rattle.dh_plans.specs.declared.edits.Edit.TheVariants.{PutVersion, PutWithoutPages}
+use Rattle.dh_laws.specs.Classes.{versions_for}
+use Rattle.dh_laws.specs.Tops.{IsTopIfAny as IsTopOrNone, stable_in, stable_version}
+use Rattle.dh_laws.proofs.NameLemmas.{stable_name}
+use Rattle.dh_laws.proofs.PassLemmas.{is_there, seen_named}
+use Rattle.dh_laws.proofs.TopLemmas.{stable_is_top}
+use Rattle.dh_commands.specs.declared.edits.Edit.{Edit}
+use Rattle.dh_commands.specs.declared.edits.Edit.TheVariants.{PutVersion, PutWithoutPages}
 use Rattle.dh_records.specs.Lists.{Lists, world_of, project_of, is_project, is_version}
 use Rattle.dh_records.specs.declared.records.AliasName.TheVariants.{Stable}
 use Rattle.dh_records.specs.declared.records.ProjectRow.{ProjectRow}
 use Rattle.dh_records.proofs.SeenLemmas.{get_project}
 use Rattle.dh_records.proofs.WorldLemmas.{branch_of as branch_in, version_in}
-use Rattle.dh_derived.specs.Rightness.{kept_at, due_at}
-use Rattle.dh_derived.specs.Renewals.{FitsEdit, FitsAdded, FitsReplaced}
-use Rattle.dh_derived.specs.declared.renewals.Renewal.{Renewal}
-use Rattle.dh_derived.specs.declared.renewals.Renewal.TheVariants.{Nothing}
-use Rattle.dh_derived.proofs.PutLemmas.{put_is_bare, unseen_new}
-use Rattle.dh_derived.proofs.SoundLemmas.{sound_project}
+use Rattle.dh_stored_names.specs.Rightness.{kept_at, due_at}
+use Rattle.dh_stored_names.specs.Renewals.{FitsEdit, FitsAdded, FitsReplaced}
+use Rattle.dh_stored_names.specs.declared.renewals.Renewal.{Renewal}
+use Rattle.dh_stored_names.specs.declared.renewals.Renewal.TheVariants.{Nothing}
+use Rattle.dh_stored_names.proofs.PutLemmas.{put_is_bare, unseen_new}
+use Rattle.dh_stored_names.proofs.SoundLemmas.{sound_project}
 use Rattle.dh_renewal.specs.Finding.{CoversEdit, CoversNew, CoversPut, IsStable}
 use Rattle.dh_renewal.specs.Renewing.{FindsBranch, HasBranch}
 

@@ -9,11 +9,11 @@ use Rattle.dh_texts.specs.Texts.{is_token}
 use Rattle.dh_world.specs.World.{Text, Project}
 use Rattle.dh_world.specs.declared.refusal.Refusal.{Refusal}
 use Rattle.dh_rows.specs.Calls.{IsHonest}
-use Rattle.dh_aliases.specs.declared.names.Names.{Names}
-use Rattle.dh_aliases.specs.Names.{names_of}
-use Rattle.dh_class_names.specs.ClassNames.{class_names, AreRowsOf}
-use Rattle.dh_class_names.proofs.HostLemmas.{rows_of_host}
-use Rattle.dh_class_names.specs.declared.class_names.ClassNames.{ClassNames}
+use Rattle.dh_laws.specs.declared.names.Names.{Names}
+use Rattle.dh_laws.specs.Names.{names_of}
+use Rattle.dh_stored_names.specs.ClassNames.{class_names, AreRowsOf}
+use Rattle.dh_stored_names.proofs.HostLemmas.{rows_of_host}
+use Rattle.dh_stored_names.specs.declared.class_names.ClassNames.{ClassNames}
 use Rattle.dh_records.specs.Changes.{drop_aliases}
 use Rattle.dh_records.specs.Codings as coding
 use Rattle.dh_records.specs.Constraints.{InOrder, AreSound}
@@ -23,13 +23,13 @@ use Rattle.dh_records.specs.declared.records.DefaultRow.{DefaultRow}
 use Rattle.dh_records.specs.declared.records.VersionRow.{VersionRow}
 use Rattle.dh_records.proofs.WorldLemmas.{has_pass_in}
 use Rattle.dh_tables.specs.Going.{HasRecords, ChangesRecords, records}
-use Rattle.dh_derived.specs.Rightness.{AreRight, AreRightAt}
-use Rattle.dh_derived.specs.Renewed.{set_names, set_classes, classes_at, names_due, no_names, renew_routes, renewed, renewed_at, host_renewed, host_renewed_at}
-use Rattle.dh_derived.specs.declared.renewals.Renewal.{Renewal}
-use Rattle.dh_derived.specs.declared.renewals.Renewal.TheVariants.{Nothing, Routes, Class, Aliases}
-use Rattle.dh_derived.proofs.RenewedLemmas.{renewed_right, host_renewed_right}
+use Rattle.dh_stored_names.specs.Rightness.{AreRight, AreRightAt}
+use Rattle.dh_stored_names.specs.Renewed.{set_names, set_classes, classes_at, names_due, no_names, renew_routes, renewed, renewed_at, host_renewed, host_renewed_at}
+use Rattle.dh_stored_names.specs.declared.renewals.Renewal.{Renewal}
+use Rattle.dh_stored_names.specs.declared.renewals.Renewal.TheVariants.{Nothing, Routes, Class, Aliases}
+use Rattle.dh_stored_names.proofs.RenewedLemmas.{renewed_right, host_renewed_right}
 use Rattle.dh_records.specs.declared.records.AliasName.TheVariants.{Stable}
-use Rattle.dh_derived.specs.Renewals.{AreRightBut}
+use Rattle.dh_stored_names.specs.Renewals.{AreRightBut}
 use Rattle.dh_renewal.specs.Finding.{IsStableKept}
 use Rattle.dh_renewal.specs.Renewing.{set_class, set_all, HasBranch, LacksRenewal, OfBranch, RightOf}
 

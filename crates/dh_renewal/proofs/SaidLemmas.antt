@@ -26,11 +26,11 @@ use Rattle.dh_records.specs.declared.records.AliasName.{AliasName}
 use Rattle.dh_records.specs.declared.records.PassRow.{PassRow}
 use Rattle.dh_records.proofs.OrderLemmas.{filtered_in_order}
 use Rattle.dh_constraints.proofs.OrderLemmas.{by_host}
-use Rattle.dh_class_names.specs.ClassNames.{class_names}
-use Rattle.dh_class_names.specs.declared.class_names.ClassNames.{ClassNames}
-use Rattle.dh_derived.specs.Rightness.{kept_at, named}
-use Rattle.dh_derived.specs.Renewed.{classes_at, set_alias}
-use Rattle.dh_derived.proofs.KeptLemmas.{kept_names, kept_set}
+use Rattle.dh_stored_names.specs.ClassNames.{class_names}
+use Rattle.dh_stored_names.specs.declared.class_names.ClassNames.{ClassNames}
+use Rattle.dh_stored_names.specs.Rightness.{kept_at, named}
+use Rattle.dh_stored_names.specs.Renewed.{classes_at, set_alias}
+use Rattle.dh_stored_names.proofs.KeptLemmas.{kept_names, kept_set}
 use Rattle.dh_renewal.specs.Renewing.{set_class}
 use Rattle.dh_renewal.specs.Standing.{AreApart, AreSaid, IsSaid, SayNames, kept_in}
 

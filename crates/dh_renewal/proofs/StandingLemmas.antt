@@ -18,9 +18,9 @@ use Rattle.dh_records.specs.Lists.{Lists, is_alias_at, same_alias}
 use Rattle.dh_records.specs.declared.records.AliasRow.{AliasRow}
 use Rattle.dh_records.specs.declared.records.AliasName.{AliasName}
 use Rattle.dh_records.specs.declared.records.AliasName.TheVariants.{Latest, Stable, Default}
-use Rattle.dh_derived.proofs.KeptLemmas.{alias_key}
-use Rattle.dh_derived.specs.Rightness.{kept_at}
-use Rattle.dh_derived.specs.Renewed.{set_alias}
+use Rattle.dh_stored_names.proofs.KeptLemmas.{alias_key}
+use Rattle.dh_stored_names.specs.Rightness.{kept_at}
+use Rattle.dh_stored_names.specs.Renewed.{set_alias}
 
 -- ---- what is found
 

@@ -8,10 +8,10 @@ use Rattle.std.proofs.lemmas.Bool.{and_parts, cases_Bool}
 use Rattle.std.proofs.lemmas.List.{drop_all, drop_more, length-take-le, take_all, take_more}
 use Rattle.std.proofs.lemmas.Slice.Eq.{bytes_eq-Decides}
 use Rattle.sqlite_keyed.proofs.ListLemmas.{all-append}
-use Rattle.dh_aliases.specs.declared.names.Names.{Names}
-use Rattle.dh_aliases.specs.Names.{names_of}
-use Rattle.dh_class_names.specs.ClassNames.{class_names}
-use Rattle.dh_class_names.specs.declared.class_names.ClassNames.{ClassNames}
+use Rattle.dh_laws.specs.declared.names.Names.{Names}
+use Rattle.dh_laws.specs.Names.{names_of}
+use Rattle.dh_stored_names.specs.ClassNames.{class_names}
+use Rattle.dh_stored_names.specs.declared.class_names.ClassNames.{ClassNames}
 use Rattle.dh_world.specs.World.{Text, Project}
 use Rattle.dh_records.specs.Lists.{Lists, class_text, is_alias_at, is_project, is_pass_of, is_pass, is_redirect_of, is_route_in, is_route_of, placed, project_of, route_row, same_alias, world_of}
 use Rattle.dh_records.specs.declared.records.AliasRow.{AliasRow}
@@ -24,9 +24,9 @@ use Rattle.dh_records.specs.declared.records.RouteRow.{RouteRow}
 use Rattle.dh_records.proofs.RedirectLemmas.{redirects_in}
 use Rattle.dh_records.proofs.SeenLemmas.{get_project}
 use Rattle.dh_records.proofs.WorldLemmas.{has_pass_in}
-use Rattle.dh_derived.specs.Rightness.{AreRight, AreRightAt, class_in, due_at, due_in, has_class, kept_at, named, route_of, routes_due}
-use Rattle.dh_derived.specs.Renewed.{classes_at, routes_for}
-use Rattle.dh_derived.proofs.RenewedLemmas.{listed}
+use Rattle.dh_stored_names.specs.Rightness.{AreRight, AreRightAt, class_in, due_at, due_in, has_class, kept_at, named, route_of, routes_due}
+use Rattle.dh_stored_names.specs.Renewed.{classes_at, routes_for}
+use Rattle.dh_stored_names.proofs.RenewedLemmas.{listed}
 use Rattle.dh_renewal.proofs.StandingLemmas.{all_found}
 use Rattle.dh_renewal.specs.Renewing.{HasBranch, OfBranch}
 use Rattle.dh_renewal.specs.Standing.{AgreeIn, AreAliasesDue, AreFormed, IsFormed, RoutesStand, aliases_due, kept_in, names_at, with_class, with_classes, with_name}

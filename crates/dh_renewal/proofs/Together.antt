@@ -4,7 +4,7 @@ use Rattle.sqlite_trees.specs.declared.store.Store.{Ghosts}
 use Rattle.sqlite.specs.Held.{Held}
 use Rattle.dh_rows.specs.Calls.{MakesNoCommit, IsHonest}
 use Rattle.dh_records.specs.Lists.{Lists}
-use Rattle.dh_schema.specs.InTurn.{goes_anywhere, goes_none, goes_on}
+use Rattle.dh_records.specs.InTurn.{goes_anywhere, goes_none, goes_on}
 use Rattle.dh_tables.specs.Going.{LooksAtRecords, ChangesRecords, NowShowsRecords, records}
 use Rattle.dh_tables.proofs.Together.{goes_within_on}
 use Rattle.dh_renewal.specs.Looks.{looks_on}

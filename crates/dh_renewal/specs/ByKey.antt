@@ -3,7 +3,7 @@ use Rattle.std.specs.Prelude.{List, filter, map}
 use Rattle.sqlite_trees.specs.declared.store.Store.{Ghosts}
 use Rattle.sqlite.specs.Held.{Held}
 use Rattle.dh_rows.specs.Calls.{IsHonest, MakesNoCommit}
-use Rattle.dh_class_names.specs.Find.{Finding}
+use Rattle.dh_stored_names.specs.Find.{Finding}
 use Rattle.dh_tables.specs.Going.{NowShowsRecords, records}
 use Rattle.dh_world.specs.World.{Text}
 use Rattle.dh_records.specs.Lists.{Lists, is_pick_of, is_version_of}

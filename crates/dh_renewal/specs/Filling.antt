@@ -5,9 +5,9 @@ use Rattle.sqlite.specs.Held.{Held, state}
 use Rattle.sqlite.specs.State.{HasCleanDisk}
 use Rattle.dh_rows.specs.Calls.{IsHonest, KeepsFaults, CrashLeaves}
 use Rattle.dh_records.specs.Lists.{Lists, base_of}
-use Rattle.dh_schema.specs.Tables.{HoldsTables, lists_of}
+use Rattle.dh_records.specs.Tables.{HoldsTables, lists_of}
 use Rattle.dh_tables.specs.Going.{last_records, records}
-use Rattle.dh_derived.specs.Rightness.{AreRight}
+use Rattle.dh_stored_names.specs.Rightness.{AreRight}
 use Rattle.dh_world.specs.declared.refusal.Refusal.{Refusal}
 
 -- The records that others are derived from stay, and the derived ones are what they say.

@@ -5,19 +5,19 @@ use Rattle.dh_texts.specs.SlugOfName.{slug_from}
 use Rattle.dh_versions.specs.declared.version.Version.{Version}
 use Rattle.dh_world.specs.Changes.{with_version}
 use Rattle.dh_world.specs.World.{Text, Project}
-use Rattle.dh_classes.specs.Classes.{versions_for}
-use Rattle.dh_aliases.specs.Names.{names_of}
-use Rattle.dh_aliases.specs.Tops.{stable_version}
-use Rattle.dh_class_names.specs.Highest.{IsHighest, IsSeenWith}
-use Rattle.dh_plans.specs.Edits.{edited, MayEdit}
-use Rattle.dh_plans.specs.declared.edits.Edit.{Edit}
+use Rattle.dh_laws.specs.Classes.{versions_for}
+use Rattle.dh_laws.specs.Names.{names_of}
+use Rattle.dh_laws.specs.Tops.{stable_version}
+use Rattle.dh_stored_names.specs.Highest.{IsHighest, IsSeenWith}
+use Rattle.dh_commands.specs.Edits.{edited, MayEdit}
+use Rattle.dh_commands.specs.declared.edits.Edit.{Edit}
 use Rattle.dh_records.specs.Constraints.{AreSound}
 use Rattle.dh_records.specs.Lists.{Lists, world_of}
 use Rattle.dh_records.specs.declared.records.AliasName.TheVariants.{Stable}
 use Rattle.dh_records.specs.declared.records.GrantRow.{GrantRow}
-use Rattle.dh_derived.specs.Rightness.{AreRightAt, kept_at}
-use Rattle.dh_derived.specs.Renewals.{CoversChange}
-use Rattle.dh_derived.specs.declared.renewals.Renewal.{Renewal}
+use Rattle.dh_stored_names.specs.Rightness.{AreRightAt, kept_at}
+use Rattle.dh_stored_names.specs.Renewals.{CoversChange}
+use Rattle.dh_stored_names.specs.declared.renewals.Renewal.{Renewal}
 use Rattle.dh_renewal.specs.ByKey.{versions_at}
 
 -- P holds of the project of the host, where the records are sound and the host's stored rows are right

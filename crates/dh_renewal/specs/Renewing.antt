@@ -3,15 +3,15 @@ use Rattle.std.specs.Prelude.{◌≡◌, false, List, [], ◌∷◌, Option, Som
 use Rattle.std.specs.FinMap.{get}
 use Rattle.std.specs.Str.{bytes_eq}
 use Rattle.dh_world.specs.World.{Text, Project}
-use Rattle.dh_aliases.specs.declared.names.Names.{Names}
-use Rattle.dh_aliases.specs.Names.{names_of}
-use Rattle.dh_class_names.specs.declared.class_names.ClassNames.{ClassNames}
+use Rattle.dh_laws.specs.declared.names.Names.{Names}
+use Rattle.dh_laws.specs.Names.{names_of}
+use Rattle.dh_stored_names.specs.declared.class_names.ClassNames.{ClassNames}
 use Rattle.dh_records.specs.Lists.{Lists, base_of, world_of, class_text, is_held_by}
 use Rattle.dh_records.specs.declared.records.GrantRow.{GrantRow}
-use Rattle.dh_derived.specs.Rightness.{AreRightAt}
-use Rattle.dh_derived.specs.Renewals.{AreRightBut}
-use Rattle.dh_derived.specs.Renewed.{set_names}
-use Rattle.dh_derived.specs.declared.renewals.Renewal.{Renewal}
+use Rattle.dh_stored_names.specs.Rightness.{AreRightAt}
+use Rattle.dh_stored_names.specs.Renewals.{AreRightBut}
+use Rattle.dh_stored_names.specs.Renewed.{set_names}
+use Rattle.dh_stored_names.specs.declared.renewals.Renewal.{Renewal}
 
 abbrev pub set_class : Text → ClassNames → Lists → Lists
 set_class host x l = set_names host (class_text x.class) x.names l

@@ -7,16 +7,16 @@ use Rattle.std.specs.Option.{option_map_or}
 use Rattle.std.specs.Str.{bytes_eq}
 use Rattle.sqlite_trees.specs.Tree.{IsAscending}
 use Rattle.dh_world.specs.World.{Text, text_cmp}
-use Rattle.dh_class_names.specs.ClassNames.{class_names}
-use Rattle.dh_class_names.specs.declared.class_names.ClassNames.{ClassNames}
+use Rattle.dh_stored_names.specs.ClassNames.{class_names}
+use Rattle.dh_stored_names.specs.declared.class_names.ClassNames.{ClassNames}
 use Rattle.dh_records.specs.Lists.{Lists, world_of, class_text, is_alias_at, is_route_in, placed, route_row}
 use Rattle.dh_records.specs.declared.records.AliasRow.{AliasRow}
 use Rattle.dh_records.specs.declared.records.AliasName.{AliasName}
 use Rattle.dh_records.specs.declared.records.AliasName.TheVariants.{Latest, Stable, Default}
 use Rattle.dh_records.specs.declared.records.ProjectRow.{ProjectRow}
 use Rattle.dh_records.specs.declared.records.RouteRow.{RouteRow}
-use Rattle.dh_derived.specs.Rightness.{class_in, kept_at}
-use Rattle.dh_derived.specs.Renewed.{classes_at, routes_for}
+use Rattle.dh_stored_names.specs.Rightness.{class_in, kept_at}
+use Rattle.dh_stored_names.specs.Renewed.{classes_at, routes_for}
 
 -- ---- aliases
 

@@ -1,18 +1,18 @@
 //! Versions that are looked up by keys: few are read, however many there are.
 
 ghost use Rattle.std.specs.Prelude.{◌≡◌, option_map};
-ghost use Rattle.dh_schema.specs.Calling.{AnswersBy};
+ghost use Rattle.dh_records.specs.Calling.{AnswersBy};
 ghost use Rattle.dh_tables.specs.Going.{LooksAtRecords};
-ghost use Rattle.dh_class_names.specs.Rows.{names_by};
+ghost use Rattle.dh_stored_names.specs.Rows.{names_by};
 ghost use Rattle.dh_renewal.specs.ByKey.{defaults_at, finding_at, versions_at};
-ghost use Rattle.dh_schema.specs.InTurn.{goes_none, goes_on};
+ghost use Rattle.dh_records.specs.InTurn.{goes_none, goes_on};
 ghost use Rattle.dh_renewal.specs.Looks.{looks_none, looks_on, same_versions};
 
 use crate::looks::rows_of;
-use dh_aliases::Names;
-use dh_class_names::{Find, names_for};
-use dh_paths::{HostName, RefName};
+use dh_laws::Names;
+use dh_stored_names::{Find, names_for};
 use dh_tables::{DefaultRow, GrantRow, Tables};
+use dh_texts::{HostName, RefName};
 use dh_versions::Version;
 use dh_world::Refusal;
 use sqlite::Alter;

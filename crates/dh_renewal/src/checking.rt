@@ -2,12 +2,12 @@
 
 ghost use Rattle.std.specs.Prelude.{◌≡◌, IsTrue, filter};
 ghost use Rattle.std.specs.List.{AllByRecursion, list_any};
-ghost use Rattle.dh_schema.specs.Calling.{AnswersBy};
+ghost use Rattle.dh_records.specs.Calling.{AnswersBy};
 ghost use Rattle.dh_tables.specs.Going.{LooksAtRecords};
 ghost use Rattle.dh_records.specs.Constraints.{AreSound};
 ghost use Rattle.dh_records.specs.Lists.{is_project, is_route_of, placed, route_row};
-ghost use Rattle.dh_derived.specs.Renewed as renewed;
-ghost use Rattle.dh_derived.specs.Rightness.{AreRight};
+ghost use Rattle.dh_stored_names.specs.Renewed as renewed;
+ghost use Rattle.dh_stored_names.specs.Rightness.{AreRight};
 ghost use Rattle.dh_renewal.specs.Standing as spec;
 ghost use Rattle.dh_renewal.specs.Standing.{AreAliasesDue, RoutesStand};
 
@@ -15,10 +15,10 @@ use crate::looks::branch_of;
 use crate::names::names_of_all;
 use crate::routes::routes_for;
 use crate::standing::{after_classes, agree, placed_rows};
-use dh_class_names::ClassNames;
-use dh_paths::HostName;
 use dh_records::{AliasRow, RouteRow};
+use dh_stored_names::ClassNames;
 use dh_tables::{ProjectRow, Tables};
+use dh_texts::HostName;
 use dh_world::Refusal;
 use sqlite::Alter;
 use std::alloc::Global;

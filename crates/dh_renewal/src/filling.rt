@@ -4,7 +4,7 @@ ghost use Rattle.std.specs.Prelude.{◌≡◌, IfErr, OnOk};
 ghost use Rattle.sqlite.specs.Held.{state};
 ghost use Rattle.sqlite.specs.State.{HasCleanDisk};
 ghost use Rattle.dh_rows.specs.Calls.{MakesNoCommitInside, IsHonest, KeepsCommitted, KeepsFaults, LeavesNoMore};
-ghost use Rattle.dh_schema.specs.Calling.{IsSettled};
+ghost use Rattle.dh_records.specs.Calling.{IsSettled};
 ghost use Rattle.dh_tables.specs.Going.{HasRecords, IsWithin, ChangesRecords, NowShowsRecords, last_records, records};
 ghost use Rattle.dh_records.specs.Constraints.{AreSound};
 ghost use Rattle.dh_records.specs.Lists.{base_of};

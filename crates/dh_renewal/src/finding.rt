@@ -1,18 +1,18 @@
 //! Which rows must be made right after an edit, by what is looked up of the project before it.
 
 ghost use Rattle.std.specs.Prelude.{IfErr, IfOk};
-ghost use Rattle.dh_schema.specs.Calling.{AnswersBy};
+ghost use Rattle.dh_records.specs.Calling.{AnswersBy};
 ghost use Rattle.dh_tables.specs.Going.{LooksAtRecords};
 ghost use Rattle.dh_world.specs.CheckResults.{IsFault};
-ghost use Rattle.dh_derived.specs.Renewals.{FitsAdded};
+ghost use Rattle.dh_stored_names.specs.Renewals.{FitsAdded};
 ghost use Rattle.dh_renewal.specs.Finding.{CoversEdit, CoversNew, CoversPut};
 
 use crate::looks::{branch_of, version_under};
 use crate::stable::stable_version;
-use dh_derived::{Renewal, is_seen_by_all, renewal_of, renewal_of_added, renewal_of_replaced};
-use dh_paths::{HostName, RefName};
-use dh_plans::Edit;
+use dh_commands::Edit;
+use dh_stored_names::{Renewal, is_seen_by_all, renewal_of, renewal_of_added, renewal_of_replaced};
 use dh_tables::Tables;
+use dh_texts::{HostName, RefName};
 use dh_versions::Version;
 use dh_world::Refusal;
 use sqlite::Alter;

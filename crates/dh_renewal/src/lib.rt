@@ -1,4 +1,4 @@
-//! Making stored rows of a host right, on the tables: which rows an edit leaves to be made right, and how they are made so.
+//! Stored aliases and routes renewed, after an edit or all at once.
 #![tactic(auto)]
 
 mod by_key;
@@ -13,7 +13,7 @@ mod setting;
 mod stable;
 mod standing;
 
-pub use dh_derived::Renewal;
+pub use dh_stored_names::Renewal;
 pub use filling::derive;
 pub use finding::renewal_for;
 pub use renewing::{renew, renew_host};

@@ -1,15 +1,15 @@
 //! Looking up records of a project.
 
 ghost use Rattle.std.specs.Prelude.{◌≡◌, filter, find, option_map};
-ghost use Rattle.dh_schema.specs.Calling.{AnswersBy};
+ghost use Rattle.dh_records.specs.Calling.{AnswersBy};
 ghost use Rattle.dh_tables.specs.Going.{LooksAtRecords};
 ghost use Rattle.dh_records.specs.Lists as lists;
-ghost use Rattle.dh_derived.specs.Rightness.{kept_at};
+ghost use Rattle.dh_stored_names.specs.Rightness.{kept_at};
 ghost use Rattle.dh_renewal.specs.Renewing.{FindsBranch};
 
-use dh_paths::{HostName, RefName, Slug, Token};
 use dh_records::{AliasName, AliasRow};
 use dh_tables::{GrantRow, Listed, PassRow, Tables, VersionRow};
+use dh_texts::{HostName, RefName, Slug, Token};
 use dh_versions::Version;
 use dh_world::Refusal;
 use sqlite::Alter;

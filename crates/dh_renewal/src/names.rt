@@ -1,22 +1,22 @@
 //! The names of a project, from its records.
 
 ghost use Rattle.std.specs.Prelude.{◌≡◌, Some, map};
-ghost use Rattle.dh_schema.specs.Calling.{AnswersBy};
+ghost use Rattle.dh_records.specs.Calling.{AnswersBy};
 ghost use Rattle.dh_tables.specs.Going.{LooksAtRecords};
 ghost use Rattle.dh_records.specs.Constraints.{AreSound};
-ghost use Rattle.dh_class_names.specs.ClassNames.{class_names, classes_of};
-ghost use Rattle.dh_derived.specs.Renewed as renewed;
-ghost use Rattle.dh_derived.specs.Renewed.{classes_at};
+ghost use Rattle.dh_stored_names.specs.ClassNames.{class_names, classes_of};
+ghost use Rattle.dh_stored_names.specs.Renewed as renewed;
+ghost use Rattle.dh_stored_names.specs.Renewed.{classes_at};
 ghost use Rattle.dh_renewal.specs.Finding.{IsStableKept};
 ghost use Rattle.dh_renewal.specs.Renewing.{IsOfGrants, OfBranch};
 
 use crate::by_key::names_with_grants;
 use crate::looks::{grants_of, pass_of, rows_of, versions_of};
 use crate::stable::stable_with;
-use dh_aliases::Names;
-use dh_class_names::{ClassNames, names_by_class};
-use dh_paths::{HostName, RefName, Token};
+use dh_laws::Names;
+use dh_stored_names::{ClassNames, names_by_class};
 use dh_tables::{DefaultRow, GrantRow, PassRow, Tables};
+use dh_texts::{HostName, RefName, Token};
 use dh_world::Refusal;
 use sqlite::Alter;
 use std::alloc::Global;

@@ -1,17 +1,16 @@
 //! The routes of redirects, set in their table.
 
 ghost use Rattle.std.specs.Prelude.{◌≡◌, IfOk, map};
-ghost use Rattle.dh_schema.specs.Calling.{AnswersBy};
+ghost use Rattle.dh_records.specs.Calling.{AnswersBy};
 ghost use Rattle.dh_tables.specs.Going.{LooksAtRecords, IsWithin, ChangesRecords};
 ghost use Rattle.dh_records.specs.Changes as change;
-ghost use Rattle.dh_derived.specs.Rightness as rightness;
-ghost use Rattle.dh_derived.specs.Renewed as renewed;
+ghost use Rattle.dh_stored_names.specs.Rightness as rightness;
+ghost use Rattle.dh_stored_names.specs.Renewed as renewed;
 
-use dh_paths::{HostName, Text};
 use dh_records::Route;
-use dh_redirects::Redirect;
-use dh_segments::segment_of;
+use dh_redirects::{Redirect, segment_of};
 use dh_tables::{RedirectRow, Tables};
+use dh_texts::{HostName, Text};
 use dh_world::Refusal;
 use sqlite::Alter;
 use std::alloc::{AllocError, Global};

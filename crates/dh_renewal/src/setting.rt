@@ -3,18 +3,18 @@
 ghost use Rattle.std.specs.Prelude.{◌≡◌, IsTrue, Some, option_copied};
 ghost use Rattle.dh_rows.specs.Calls.{IsHonest};
 ghost use Rattle.dh_tables.specs.Going.{HasRecords, IsWithin, ChangesRecords};
-ghost use Rattle.dh_derived.specs.Renewed as renewed;
+ghost use Rattle.dh_stored_names.specs.Renewed as renewed;
 ghost use Rattle.dh_renewal.specs.Renewing as spec;
-ghost use Rattle.dh_derived.specs.Rightness.{kept_at};
+ghost use Rattle.dh_stored_names.specs.Rightness.{kept_at};
 ghost use Rattle.dh_renewal.specs.Standing.{AreApart, AreSaid, IsSaid, SayNames};
 
 use crate::looks::{aliases_at, kept_alias};
 use crate::standing::{rows_of_class, slug_in};
-use dh_aliases::Names;
-use dh_class_names::ClassNames;
-use dh_paths::{HostName, Slug, Text};
+use dh_laws::Names;
 use dh_records::{AliasName, AliasRow, class_text};
+use dh_stored_names::ClassNames;
 use dh_tables::Tables;
+use dh_texts::{HostName, Slug, Text};
 use dh_world::Refusal;
 use sqlite::Alter;
 use std::alloc::Global;

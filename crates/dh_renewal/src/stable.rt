@@ -1,15 +1,15 @@
 //! The version that `stable` stands for, by keys.
 
-ghost use Rattle.dh_schema.specs.Calling.{AnswersBy};
+ghost use Rattle.dh_records.specs.Calling.{AnswersBy};
 ghost use Rattle.dh_tables.specs.Going.{LooksAtRecords};
 ghost use Rattle.dh_renewal.specs.Finding.{IsStable, IsStableWith};
 
 use crate::by_key::ByKey;
 use crate::looks::{kept_alias, version_under};
-use dh_class_names::highest_with;
-use dh_paths::HostName;
 use dh_records::AliasName;
+use dh_stored_names::highest_with;
 use dh_tables::{GrantRow, Tables};
+use dh_texts::HostName;
 use dh_versions::Version;
 use dh_world::Refusal;
 use sqlite::Alter;

@@ -9,9 +9,9 @@ ghost use Rattle.dh_world.specs.World.{text_cmp};
 ghost use Rattle.dh_records.specs.Lists.{is_alias_at, is_route_in, placed, route_row, same_alias};
 ghost use Rattle.dh_renewal.specs.Standing.{AgreeIn, IsFormed, kept_in, with_class, with_classes, with_name};
 
-use dh_class_names::ClassNames;
-use dh_paths::{HostName, Slug, Text};
 use dh_records::{AliasName, AliasRow, Route, RouteRow, class_text};
+use dh_stored_names::ClassNames;
+use dh_texts::{HostName, Slug, Text};
 use std::alloc::{AllocError, Global};
 
 fn is_text(one: &str, two: &str) -> bool

@@ -2,7 +2,7 @@
 use Rattle.std.specs.Prelude.{◌≡◌, ◌≤◌, ℕ, List, [], Option, Result, Vec, IfOk, OnOk, IfSome}
 use Rattle.std.specs.Option.{option_and_then, option_map_or}
 use Rattle.dh_ports.specs.declared.fault.Fault.{Fault}
-use Rattle.dh_seen.specs.declared.seen_project.SeenProject.{SeenProject}
+use Rattle.dh_reads.specs.declared.seen_project.SeenProject.{SeenProject}
 use Rattle.dh_ports.specs.Faults.{OnStore}
 
 -- how a lookup is read

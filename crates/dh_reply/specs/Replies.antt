@@ -3,20 +3,20 @@ use Rattle.std.specs.Prelude.{ℕ, ◌-◌, ◌||◌, ◌==◌, if◌then◌else
 use Rattle.std.specs.List.{find}
 use Rattle.std.specs.Option.{option_map, option_and_then}
 use Rattle.std.specs.Str.{bytes_eq}
-use Rattle.dh_paths.specs.Escapes.{escaped}
-use Rattle.dh_paths.specs.Places.{Place, split_of, Root, Robots, System, Page, Bare, File}
+use Rattle.dh_texts.specs.Escapes.{escaped}
+use Rattle.dh_texts.specs.Places.{Place, split_of, Root, Robots, System, Page, Bare, File}
 use Rattle.dh_texts.specs.Texts.{is_slug}
 use Rattle.dh_redirects.specs.declared.redirect.Asked.{Asked}
 use Rattle.dh_redirects.specs.declared.redirect.Location.{Location}
 use Rattle.dh_redirects.specs.declared.redirect.Parts.{Parts}
 use Rattle.dh_reply.specs.declared.address.GoodAddress.{GoodAddress}
-use Rattle.dh_seen.specs.declared.found.Named.{Named}
-use Rattle.dh_seen.specs.declared.found.Page.{Page as FoundPage}
-use Rattle.dh_wire.specs.declared.reply.Reply.{Reply}
-use Rattle.dh_seen.specs.declared.seen_project.SeenProject.{SeenProject}
-use Rattle.dh_seen.specs.SeenProject.{resolved, page_at, forced_result, not_found_result}
-use Rattle.dh_wire.specs.Bodies.{body_reply}
-use Rattle.dh_wire.specs.Statuses.{host_not_found}
+use Rattle.dh_reads.specs.declared.found.Named.{Named}
+use Rattle.dh_reads.specs.declared.found.Page.{Page as FoundPage}
+use Rattle.dh_reads.specs.declared.reply.Reply.{Reply}
+use Rattle.dh_reads.specs.declared.seen_project.SeenProject.{SeenProject}
+use Rattle.dh_reads.specs.SeenProject.{resolved, page_at, forced_result, not_found_result}
+use Rattle.dh_reads.specs.Bodies.{body_reply}
+use Rattle.dh_reads.specs.Statuses.{host_not_found}
 use Rattle.dh_reply.specs.System.{robots, system}
 
 abbrev pub page_reply : ℕ → FoundPage → Reply

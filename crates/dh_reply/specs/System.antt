@@ -8,12 +8,12 @@ use Rattle.serde_json.specs.Written.{compact_text}
 use Rattle.dh_versions.specs.declared.version.Kind.{Kind}
 use Rattle.dh_versions.specs.declared.version.Kind.TheVariants.{Branch, Tag}
 use Rattle.dh_versions.specs.declared.version.Version.{Version}
-use Rattle.dh_seen.specs.declared.found.Named.{Named}
-use Rattle.dh_seen.specs.declared.seen_project.SeenProject.{SeenProject}
-use Rattle.dh_seen.specs.SeenProject.{resolved}
-use Rattle.dh_wire.specs.declared.reply.Reply.{Reply}
-use Rattle.dh_wire.specs.Bodies.{plain_text, json, body_reply}
-use Rattle.dh_wire.specs.Statuses.{host_not_found}
+use Rattle.dh_reads.specs.declared.found.Named.{Named}
+use Rattle.dh_reads.specs.declared.seen_project.SeenProject.{SeenProject}
+use Rattle.dh_reads.specs.SeenProject.{resolved}
+use Rattle.dh_reads.specs.declared.reply.Reply.{Reply}
+use Rattle.dh_reads.specs.Bodies.{plain_text, json, body_reply}
+use Rattle.dh_reads.specs.Statuses.{host_not_found}
 
 -- ---- `/robots.txt` (RFC 9309, section 2.2)
 

@@ -4,8 +4,8 @@ ghost use Rattle.std.specs.Prelude.{◌≡◌};
 ghost use Rattle.dh_ports.specs.Faults.{GivesMaybe};
 ghost use Rattle.dh_reply.specs.Replies.{known_lang, slug_named, good_of};
 
-use dh_paths::{Lang, Slug, TextFault};
-use dh_seen::Named;
+use dh_reads::Named;
+use dh_texts::{Lang, Slug, TextFault};
 use std::alloc::{AllocError, Global};
 
 /// The language and the version of an address that is good: the language is one of the project's,

@@ -1,4 +1,4 @@
-//! Makes the reply to a read, over any lookup; re-exports lookups, replies, their bytes, and the ports for bytes.
+//! The reply to a read, over any `Lookup`: a page, a redirect, or not found.
 #![tactic(auto)]
 
 mod address;
@@ -12,9 +12,9 @@ mod robots;
 pub mod seen;
 mod system;
 
-pub use dh_seen::{Items, Named, Page, SeenProject, StoredPage};
-pub use dh_wire::{
-    Allow, Read, Reply, fault_reply, head_bytes, reply_bytes, text_reply, unavailable_bytes,
+pub use dh_reads::{
+    Allow, Items, Named, Page, Read, Reply, SeenProject, StoredPage, fault_reply, head_bytes,
+    reply_bytes, text_reply, unavailable_bytes,
 };
 pub use lookup::Lookup;
 pub use respond::reply;

@@ -7,9 +7,9 @@ ghost use Rattle.serde_json.specs.Written.{compact_text};
 ghost use Rattle.dh_reply.specs.System as spec;
 ghost use Rattle.dh_reply.specs.System.{text_data, version_data, versions_data};
 
-use dh_paths::{Lang, Text};
+use dh_reads::{Reply, text_reply};
+use dh_texts::{Lang, Text};
 use dh_versions::{Kind, Version};
-use dh_wire::{Reply, text_reply};
 use serde_json::{Value, json};
 use std::alloc::{AllocError, Global};
 

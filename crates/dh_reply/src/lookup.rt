@@ -3,12 +3,12 @@
 ghost use Rattle.std.specs.Prelude.{is_some};
 ghost use Rattle.std.specs.Option.{option_and_then};
 ghost use Rattle.dh_reply.specs.Lookup.{IsLook, Meaning, AnswersFor, AnswersAll, AnswersMaybe};
-ghost use Rattle.dh_seen.specs.SeenProject.{resolved, page_at, forced_result, not_found_result};
+ghost use Rattle.dh_reads.specs.SeenProject.{resolved, page_at, forced_result, not_found_result};
 
-use dh_paths::{Lang, Slug, Text};
 use dh_ports::{Fault, Found};
+use dh_reads::{Named, Page};
 use dh_redirects::{Asked, Location};
-use dh_seen::{Named, Page};
+use dh_texts::{Lang, Slug, Text};
 use dh_versions::Version;
 use std::alloc::Global;
 

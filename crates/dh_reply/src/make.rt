@@ -3,12 +3,11 @@
 ghost use Rattle.std.specs.Prelude.{◌≡◌, ◌++◌, IfOk, IsSome, OnErr, OnOk, string_bytes};
 ghost use Rattle.dh_reply.specs.Replies.{page_reply, with_query, redirect, address, indexed, slash_added};
 
-use dh_paths::{Bytes, Text, encode_path};
-use dh_seen::Page;
-use dh_wire::Reply;
+use dh_reads::{Page, Reply};
+use dh_texts::{Bytes, Text, encode_path};
 use std::alloc::{AllocError, Global};
 
-#[tactic(auto, unfolding(dh_wire::specs::Bodies::body_reply))]
+#[tactic(auto, unfolding(dh_reads::specs::Bodies::body_reply))]
 pub fn make_page_reply(status: u16, page: Page) -> Reply
     ensures { result ≡ page_reply status page }
 {

@@ -1,13 +1,13 @@
 //! What a read asks of redirects, and the reply of a redirect.
 
 ghost use Rattle.std.specs.Prelude.{◌≡◌, IfOk};
-ghost use Rattle.dh_paths.specs.Places.{place};
+ghost use Rattle.dh_texts.specs.Places.{place};
 ghost use Rattle.dh_reply.specs.Replies.{asked_at, leads_to, parts_at};
 
 use crate::address::GoodAddress;
-use dh_paths::{Bytes, Split, Text};
+use dh_reads::{Read, Reply};
 use dh_redirects::{Asked, Location, Parts};
-use dh_wire::{Read, Reply};
+use dh_texts::{Bytes, Split, Text};
 use std::alloc::{AllocError, Global};
 
 /// The parts of a file's address, where the address is good.

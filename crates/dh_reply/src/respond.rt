@@ -2,7 +2,7 @@
 
 ghost use Rattle.std.specs.Prelude.{is_some};
 ghost use Rattle.std.specs.Option.{option_and_then};
-ghost use Rattle.dh_paths.specs.Places.{place};
+ghost use Rattle.dh_texts.specs.Places.{place};
 ghost use Rattle.dh_reply.specs.Lookup.{IsLook, AnswersFor, AnswersMaybe, AnswersForProject};
 ghost use Rattle.dh_reply.specs.Replies as spec;
 
@@ -11,11 +11,10 @@ use crate::lookup::Lookup;
 use crate::make::{joined, make_home, make_indexed, make_page_reply, make_slashed};
 use crate::redirects::{asked_of, make_led};
 use crate::system::{robots, system};
-use dh_paths::{Lang, Slug, Split, Text, split};
 use dh_ports::{Fault, Found};
+use dh_reads::{Named, Page, Read, Reply, host_not_found};
 use dh_redirects::Asked;
-use dh_seen::{Named, Page};
-use dh_wire::{Read, Reply, host_not_found};
+use dh_texts::{Lang, Slug, Split, Text, split};
 use std::alloc::Global;
 
 /// Redirects to the file in the default version, where there is a default.

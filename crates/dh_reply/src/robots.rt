@@ -5,7 +5,7 @@ ghost use Rattle.dh_reply.specs.System as spec;
 ghost use Rattle.dh_reply.specs.System.{disallow, disallowed, lines_text, or_nothing};
 
 use crate::make::joined;
-use dh_paths::{Lang, Slug};
+use dh_texts::{Lang, Slug};
 use dh_versions::Version;
 use std::alloc::{AllocError, Global};
 

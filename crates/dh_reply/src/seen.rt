@@ -8,14 +8,14 @@ ghost use Rattle.std.proofs.Common.{◌∙◌, refl};
 ghost use Rattle.dh_redirects.specs.Locations.{asks_memory};
 ghost use Rattle.dh_ports.specs.Faults.{GivesMaybe};
 ghost use Rattle.dh_redirects.specs.FirstResult as choice;
-ghost use Rattle.dh_seen.specs.SeenProject as spec;
-ghost use Rattle.dh_seen.specs.SeenProject.{alias_of, resolved, stands_at, page_at};
+ghost use Rattle.dh_reads.specs.SeenProject as spec;
+ghost use Rattle.dh_reads.specs.SeenProject.{alias_of, resolved, stands_at, page_at};
 
 use crate::lookup::Lookup;
-use dh_paths::{Bytes, Lang, Slug, Text};
 use dh_ports::{Fault, Found};
+use dh_reads::{Named, Page, SeenProject, StoredPage};
 use dh_redirects::{Asked, Location, Redirect};
-use dh_seen::{Named, Page, SeenProject, StoredPage};
+use dh_texts::{Bytes, Lang, Slug, Text};
 use dh_versions::Version;
 use std::alloc::{AllocError, Global};
 
@@ -121,7 +121,7 @@ fn find_alias(alloc: Global, project: &SeenProject, name: &str) -> Result<Option
     }
 }
 
-#[tactic(auto, unfolding(dh_seen::specs::SeenProject::resolved))]
+#[tactic(auto, unfolding(dh_reads::specs::SeenProject::resolved))]
 fn find_name(alloc: Global, project: &SeenProject, name: &str) -> Result<Option<Named>, AllocError>
     ensures { GivesMaybe (resolved project.now name.now) result }
 {
@@ -134,7 +134,7 @@ fn find_name(alloc: Global, project: &SeenProject, name: &str) -> Result<Option<
     }
 }
 
-#[tactic(auto, unfolding(dh_seen::specs::SeenProject::page_at))]
+#[tactic(auto, unfolding(dh_reads::specs::SeenProject::page_at))]
 fn page_of(
     alloc: Global,
     project: &SeenProject,
@@ -150,7 +150,7 @@ fn page_of(
     }
 }
 
-#[tactic(auto, unfolding(dh_seen::specs::SeenProject::page_at))]
+#[tactic(auto, unfolding(dh_reads::specs::SeenProject::page_at))]
 fn has_page_at(project: &SeenProject, lang: &Lang, slug: &Slug, path: &str) -> bool
     ensures { result ≡ is_some (page_at project.now lang.now slug.now path.now) }
 {

@@ -8,10 +8,10 @@ ghost use Rattle.dh_reply.specs.System as spec;
 use crate::listing::{names_where, versions_reply};
 use crate::lookup::Lookup;
 use crate::robots::robots_text;
-use dh_paths::{Lang, Text};
 use dh_ports::Fault;
+use dh_reads::{Reply, host_not_found, text_reply};
+use dh_texts::{Lang, Text};
 use dh_versions::Version;
-use dh_wire::{Reply, host_not_found, text_reply};
 use std::alloc::Global;
 
 /// The languages, and the visible versions.

@@ -1,3 +1,9 @@
+pub mod FieldLemmas
+pub mod Fronts
+pub mod NameLemmas
+pub mod BodyReading
+pub mod TokenLemmas
+pub mod ValueLemmas
 pub mod Lines
 pub mod Ends
 pub mod Takes

@@ -6,7 +6,7 @@ use Rattle.std.specs.Str.Parse.{digits_value}
 use Rattle.std.proofs.lemmas.Bool.Decides.{nat_tests}
 use Rattle.httparse.specs.Grammar.{RequestHead}
 use Rattle.dh_ports.specs.Reading.{TookAtMost}
-use Rattle.dh_bodies.specs.declared.post.Post.{Post}
+use Rattle.dh_requests.specs.declared.post.Post.{Post}
 use Rattle.dh_requests.specs.declared.wanted.Wanted.{Wanted}
 use Rattle.dh_requests.specs.declared.wanted.Wanted.TheVariants.{Whole, Command}
 use Rattle.dh_requests.specs.declared.wanted.Posted.{Posted}
@@ -18,8 +18,8 @@ use Rattle.dh_requests.specs.HeadEnd.{HeadSize, head_end_in, head_end_of}
 use Rattle.dh_requests.specs.Scan.{after_byte, end_from, ended_or, size_behind, at_first}
 use Rattle.dh_requests.specs.Head.{Parts, parts_of}
 use Rattle.dh_requests.specs.Lengths.{is_number, limited, told_length, body_length}
-use Rattle.dh_paths.specs.Targets.{target_of}
-use Rattle.dh_wire.specs.declared.reply.Allow.TheVariants as allow
+use Rattle.dh_texts.specs.Targets.{target_of}
+use Rattle.dh_reads.specs.declared.reply.Allow.TheVariants as allow
 use Rattle.dh_requests.specs.Causes.{where_found}
 use Rattle.dh_requests.specs.Request.{asked_or_refused, is_head, one_value, requested_host, not_allowed, post_at, read_request_of, posted, command_head, request_at, request_where_right, asked_of, HeadAsksFor}
 use Rattle.dh_requests.specs.Needs.{NeedsMore, IsNeeded}

@@ -2,7 +2,7 @@
 use Rattle.std.specs.Prelude.{◌≡◌, ℕ, List, [], Option, Some, None, Result, Ok, Err, codes, ⊤}
 use Rattle.dh_texts.specs.declared.fault.TextFault.{TextFault}
 use Rattle.dh_texts.specs.declared.fault.TextFault.TheVariants as text
-use Rattle.dh_wire.specs.declared.reply.Allow.{Allow}
+use Rattle.dh_reads.specs.declared.reply.Allow.{Allow}
 use Rattle.dh_requests.specs.declared.cause.Cause.{Cause}
 use Rattle.dh_requests.specs.declared.cause.Cause.TheVariants.{NoEnd, NoHost, TwoLines, ShortBody, Form, Method, NoLength, LongBody, LongHead}
 use Rattle.dh_requests.specs.declared.fault.HeadFault.{HeadFault}

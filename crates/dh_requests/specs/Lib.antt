@@ -1,3 +1,6 @@
+pub mod Bodies
+pub mod BodyFields
+pub mod Names
 pub mod HeadEnd
 pub mod Scan
 pub mod Fields

@@ -3,14 +3,14 @@ use Rattle.std.specs.Prelude.{◌≡◌, ℕ, Bool, false, ◌||◌, List, [], l
 use Rattle.std.specs.Option.{option_map_or}
 use Rattle.std.specs.Str.{bytes_eq, is_utf8}
 use Rattle.httparse.specs.Grammar.{RequestHead}
-use Rattle.dh_paths.specs.declared.target.Target.{Target}
-use Rattle.dh_paths.specs.Targets.{target_of, host_of}
-use Rattle.dh_wire.specs.Reads.{read_of}
-use Rattle.dh_wire.specs.declared.reply.Allow.{Allow}
-use Rattle.dh_wire.specs.declared.reply.Allow.TheVariants as allow
-use Rattle.dh_bodies.specs.Bodies.{body_change}
-use Rattle.dh_bodies.specs.declared.post.Post.{Post}
-use Rattle.dh_bodies.specs.declared.post.Post.TheVariants.{Push, Upload}
+use Rattle.dh_texts.specs.declared.target.Target.{Target}
+use Rattle.dh_texts.specs.Targets.{target_of, host_of}
+use Rattle.dh_reads.specs.Reads.{read_of}
+use Rattle.dh_reads.specs.declared.reply.Allow.{Allow}
+use Rattle.dh_reads.specs.declared.reply.Allow.TheVariants as allow
+use Rattle.dh_requests.specs.Bodies.{body_change}
+use Rattle.dh_requests.specs.declared.post.Post.{Post}
+use Rattle.dh_requests.specs.declared.post.Post.TheVariants.{Push, Upload}
 use Rattle.dh_requests.specs.declared.head_end.HeadEnd.{HeadEnd}
 use Rattle.dh_requests.specs.declared.head_end.HeadEnd.TheVariants.{At, TooLarge, CutShort}
 use Rattle.dh_requests.specs.declared.cause.Cause.{Cause}

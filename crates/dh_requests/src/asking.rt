@@ -15,12 +15,12 @@ use crate::fields::Lines;
 use crate::head::{Head, head_of};
 use crate::heard::{Heard, hear_head};
 use crate::length::body_length;
+use crate::post::Post;
 use crate::request::{Request, is_head, not_allowed, read_request_of};
 use crate::wanted::{Posted, Wanted};
-use dh_bodies::Post;
-use dh_paths::{HostName, Target, Text, host_name, host_part};
 use dh_ports::Stop;
-use dh_wire::Allow;
+use dh_reads::Allow;
+use dh_texts::{HostName, Target, Text, host_name, host_part};
 use std::alloc::{AllocError, Global};
 
 /// The value of a line that may stand once, if it stands.

@@ -3,7 +3,7 @@
 ghost use Rattle.std.specs.Prelude.{◌≡◌};
 ghost use Rattle.dh_requests.specs.Causes as causes;
 
-use dh_wire::Allow;
+use dh_reads::Allow;
 
 /// Why a request is refused: by 400, but where another status stands.
 #[derive(Clone, Copy, Debug, PartialEq, Eq, Drop)]

@@ -5,7 +5,7 @@ ghost use Rattle.dh_requests.specs.Causes.{head_fault};
 ghost use Rattle.dh_requests.specs.declared.fault.HeadFault.TheVariants.{Memory};
 
 use crate::cause::Cause;
-use dh_paths::TextFault;
+use dh_texts::TextFault;
 use std::alloc::AllocError;
 
 /// Why a head asks for nothing that can be done.

@@ -11,8 +11,8 @@ use crate::fields::Lines;
 use crate::head::Head;
 use crate::length::announced;
 use crate::request::Request;
-use dh_paths::Bytes;
 use dh_ports::Stop;
+use dh_texts::Bytes;
 use std::alloc::{AllocError, Global};
 
 /// The most bytes that are kept of a line.

@@ -5,8 +5,8 @@ ghost use Rattle.std.specs.Option.{option_copied};
 ghost use Rattle.dh_requests.specs.Request as request;
 
 use crate::cause::Cause;
-use dh_paths::{Bytes, HostName, Target};
-use dh_wire::{Allow, Read};
+use dh_reads::{Allow, Read};
+use dh_texts::{Bytes, HostName, Target};
 use dh_world::Command;
 use std::alloc::{AllocError, Global};
 

@@ -1,8 +1,8 @@
 //! What the head of a request asks for.
 
+use crate::post::Post;
 use crate::request::Request;
-use dh_bodies::Post;
-use dh_paths::Text;
+use dh_texts::Text;
 
 /// A command without its body.
 #[derive(Drop)]

@@ -1,4 +1,4 @@
-//! Records of typed lists in SQL tables, which may stand among tables of others.
+//! Records of any kind in tables of `sqlite`: calls, and what a crash leaves.
 #![tactic(auto)]
 
 mod fault;

@@ -2,22 +2,22 @@
 use Rattle.std.proofs.Common.{◌≡◌, ◌∙◌, ℕ, Bool, List, [], ◌∷◌, ◌++◌, append-nil, Option, Some, None, Result, Ok, Err, inl, inr, refl, sym, ap, subst}
 use Rattle.std.specs.List.{slice_split}
 use Rattle.std.specs.Prelude.{unwrap_or}
-use Rattle.dh_paths.specs.Targets.{target_of}
-use Rattle.dh_paths.specs.declared.target.Target.{Target}
+use Rattle.dh_texts.specs.Targets.{target_of}
+use Rattle.dh_texts.specs.declared.target.Target.{Target}
 use Rattle.dh_world.specs.World.{Text, World}
 use Rattle.dh_world.specs.declared.outcome.Outcome.{Outcome}
-use Rattle.dh_histories.specs.declared.call.Call.{Call}
-use Rattle.dh_histories.specs.declared.call.Call.TheVariants.{Act, Ask}
-use Rattle.dh_histories.specs.CallsDone.{AreCallsDone, IsCallDone, outcome_of, outcome_of_read}
+use Rattle.dh_laws.specs.declared.call.Call.{Call}
+use Rattle.dh_laws.specs.declared.call.Call.TheVariants.{Act, Ask}
+use Rattle.dh_laws.specs.CallsDone.{AreCallsDone, IsCallDone, outcome_of, outcome_of_read}
 use Rattle.dh_lines.specs.Lines.{line_in}
 use Rattle.dh_lines.specs.declared.lines.Line.{Line}
 use Rattle.dh_lines.specs.declared.lines.Order.{Order}
 use Rattle.dh_lines.specs.declared.lines.Order.TheVariants.{Desk, File, Program}
 use Rattle.dh_lines.specs.declared.lines.DeskOrder.TheVariants as desk
 use Rattle.dh_lines.specs.Lines.{asking}
-use Rattle.dh_lists.specs.Lists.{ReadsList}
-use Rattle.dh_lists.specs.declared.lists.ListFault.{ListFault}
-use Rattle.dh_lists.specs.declared.lists.ListFault.TheVariants as listed
+use Rattle.dh_redirect_lists.specs.Lists.{ReadsList}
+use Rattle.dh_redirect_lists.specs.declared.lists.ListFault.{ListFault}
+use Rattle.dh_redirect_lists.specs.declared.lists.ListFault.TheVariants as listed
 use Rattle.dh_redirects.specs.declared.redirect.Redirect.{Redirect}
 use Rattle.dh_world.specs.declared.command.CommandChange.TheVariants.{ImportRedirects}
 use Rattle.dh_script.specs.LineCalls.{add_call, call_of_line, call_over, read_of_target}

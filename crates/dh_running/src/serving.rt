@@ -14,10 +14,10 @@ use dh_control::{End, answer_message};
 use dh_files::{FileDesk, FileFault, close_desk, open_desk};
 use dh_http::{Desk, Refusal};
 use dh_listings::shown;
-use dh_ports::{Sink, Source, Stop};
+use dh_ports::{Sink, Source, Steady, Stop};
 use dh_script::{Reason, RunFault, ScriptFault};
 use dh_server::{
-    Came, Control, Entry, Level, Listen, Listening, Log, Ordered, Steady, Subject, pause, serve_on,
+    Came, Control, Entry, Level, Listen, Listening, Log, Ordered, Subject, pause, serve_on,
 };
 use dh_sockets::{
     ControlSocket, EarlySocket, Node, SocketFault, bind_early, keep_socket, name_of, node_in,

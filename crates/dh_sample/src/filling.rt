@@ -8,9 +8,9 @@ ghost use Rattle.std.specs.FinMap.{empty};
 ghost use Rattle.sqlite.specs.Steps.{over_memory};
 
 use dh_http::{Answer, Command, CommandChange, Desk, Pages, Refusal, UploadedPage};
-use dh_paths::{Bytes, Text};
 use dh_ports::Fault;
 use dh_tables::Tables;
+use dh_texts::{Bytes, Text};
 use dh_versions::Kind;
 use sqlite::{Alter, MemStore};
 use std::alloc::{AllocError, Global};

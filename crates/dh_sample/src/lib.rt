@@ -1,4 +1,4 @@
-//! The sample project, in a desk in memory, and one request over it.
+//! The sample project in memory, and one request over it.
 #![tactic(auto)]
 
 mod answer;

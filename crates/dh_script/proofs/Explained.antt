@@ -1,8 +1,8 @@
 -- What was done for a reason was done.
 use Rattle.std.proofs.Common.{◌≡◌, ℕ, Bool, true, false, Option, Some, None, Result, Ok, Err, refl}
 use Rattle.std.specs.Prelude.{unwrap_or}
-use Rattle.dh_paths.specs.Targets.{target_of}
-use Rattle.dh_paths.specs.declared.target.Target.{Target}
+use Rattle.dh_texts.specs.Targets.{target_of}
+use Rattle.dh_texts.specs.declared.target.Target.{Target}
 use Rattle.dh_ports.specs.declared.fault.Fault.{Fault}
 use Rattle.dh_world.specs.World.{Text, World}
 use Rattle.dh_lines.specs.declared.lines.Line.{Line}

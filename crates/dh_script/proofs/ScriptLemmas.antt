@@ -2,11 +2,11 @@
 use Rattle.std.proofs.Common.{◌≡◌, ℕ, inl, inr, Option, Some, None, Result, Ok, Err, IfOk, OnErr}
 use Rattle.std.proofs.Common.{Bool, sym, subst, true}
 use Rattle.std.proofs.lemmas.Result.{IfOk-weaker}
-use Rattle.dh_paths.specs.declared.target.Target.{Target}
+use Rattle.dh_texts.specs.declared.target.Target.{Target}
 use Rattle.dh_reply.specs.Replies.{reply_to}
-use Rattle.dh_wire.specs.Reads.{read_of}
-use Rattle.dh_wire.specs.declared.reply.Read.{Read}
-use Rattle.dh_wire.specs.declared.reply.Reply.{Reply}
+use Rattle.dh_reads.specs.Reads.{read_of}
+use Rattle.dh_reads.specs.declared.reply.Read.{Read}
+use Rattle.dh_reads.specs.declared.reply.Reply.{Reply}
 use Rattle.dh_ports.specs.declared.fault.Fault.{Fault}
 use Rattle.dh_ports.specs.declared.fault.Fault.TheVariants.{Store, Memory}
 use Rattle.sqlite_trees.specs.declared.store.Store.{Ghosts}

@@ -1,10 +1,10 @@
 -- What an order prints, and why it is refused where it is: each clause of Script.antt on what is printed, with the reason in place
 -- of whether there is one.
 use Rattle.std.specs.Prelude.{◌≡◌, ℕ, ⊤, Option, Some, None, unwrap_or, Result, Ok, Err, IfOk, codes}
-use Rattle.dh_paths.specs.Targets.{target_of}
-use Rattle.dh_paths.specs.declared.target.Target.{Target}
+use Rattle.dh_texts.specs.Targets.{target_of}
+use Rattle.dh_texts.specs.declared.target.Target.{Target}
 use Rattle.dh_reply.specs.Replies.{reply_to}
-use Rattle.dh_wire.specs.declared.reply.Reply.{Reply}
+use Rattle.dh_reads.specs.declared.reply.Reply.{Reply}
 use Rattle.dh_ports.specs.declared.fault.Fault.{Fault}
 use Rattle.dh_world.specs.World.{Text, World}
 use Rattle.dh_world.specs.Seen.{seen}
@@ -15,7 +15,7 @@ use Rattle.dh_world.specs.declared.outcome.Outcome.{Outcome}
 use Rattle.dh_world.specs.declared.outcome.Outcome.TheVariants as outcome
 use Rattle.dh_world.specs.declared.refusal.Refusal.{Refusal}
 use Rattle.dh_world.specs.declared.refusal.Refusal.TheVariants.{NoProject}
-use Rattle.dh_histories.specs.CallsDone.{outcome_of, outcome_of_read}
+use Rattle.dh_laws.specs.CallsDone.{outcome_of, outcome_of_read}
 use Rattle.dh_listings.specs.ListingTexts.{listing_text}
 use Rattle.dh_listings.specs.declared.words.ListWord.{ListWord}
 use Rattle.dh_lines.specs.declared.lines.Line.{Line}

@@ -1,12 +1,12 @@
 -- The lines of a script as calls of a desk.
 use Rattle.std.specs.Prelude.{◌≡◌, ℕ, List, [], ◌∷◌, ◌++◌, Option, Some, None, Result, Ok, Err, unwrap_or, codes}
-use Rattle.dh_paths.specs.Targets.{target_of}
-use Rattle.dh_paths.specs.declared.target.Target.{Target}
+use Rattle.dh_texts.specs.Targets.{target_of}
+use Rattle.dh_texts.specs.declared.target.Target.{Target}
 use Rattle.dh_world.specs.World.{Text, World}
 use Rattle.dh_world.specs.declared.outcome.Outcome.{Outcome}
-use Rattle.dh_histories.specs.declared.call.Call.{Call}
-use Rattle.dh_histories.specs.declared.call.Call.TheVariants.{Act, Ask}
-use Rattle.dh_histories.specs.CallsDone.{AreCallsDone}
+use Rattle.dh_laws.specs.declared.call.Call.{Call}
+use Rattle.dh_laws.specs.declared.call.Call.TheVariants.{Act, Ask}
+use Rattle.dh_laws.specs.CallsDone.{AreCallsDone}
 use Rattle.dh_lines.specs.Lines.{line_in}
 use Rattle.dh_lines.specs.declared.lines.Line.{Line}
 use Rattle.dh_lines.specs.declared.lines.Order.{Order}

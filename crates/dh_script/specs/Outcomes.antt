@@ -1,7 +1,7 @@
 -- What a line of a script prints.
 use Rattle.std.specs.Prelude.{Bool, true, false, ◌++◌, length, unwrap_or, codes}
 use Rattle.std.specs.Fmt.{decimal}
-use Rattle.dh_wire.specs.declared.reply.Reply.{Reply}
+use Rattle.dh_reads.specs.declared.reply.Reply.{Reply}
 use Rattle.dh_ports.specs.declared.fault.Fault.{Fault}
 use Rattle.dh_ports.specs.declared.fault.Fault.TheVariants.{Store, Memory}
 use Rattle.dh_world.specs.World.{Text}

@@ -1,10 +1,10 @@
 -- What a line of a script does and prints, and what a script leaves.
 use Rattle.std.specs.Prelude.{◌≡◌, ◌⊎◌, ℕ, Bool, true, false, codes, Option, Some, None, unwrap_or}
 use Rattle.std.specs.Prelude.{Result, Ok, Err, IfOk}
-use Rattle.dh_paths.specs.Targets.{target_of}
-use Rattle.dh_paths.specs.declared.target.Target.{Target}
+use Rattle.dh_texts.specs.Targets.{target_of}
+use Rattle.dh_texts.specs.declared.target.Target.{Target}
 use Rattle.dh_reply.specs.Replies.{reply_to}
-use Rattle.dh_wire.specs.declared.reply.Reply.{Reply}
+use Rattle.dh_reads.specs.declared.reply.Reply.{Reply}
 use Rattle.dh_ports.specs.declared.fault.Fault.{Fault}
 use Rattle.dh_world.specs.World.{Text, World}
 use Rattle.dh_world.specs.Seen.{seen}
@@ -26,7 +26,7 @@ use Rattle.dh_lines.specs.declared.lines.DeskOrder.TheVariants as desk
 use Rattle.dh_script.specs.declared.fault.ScriptFault.{ScriptFault}
 use Rattle.dh_script.specs.declared.fault.ScriptFault.TheVariants.{Run}
 -- the outcome of a command and of a read, by its answer
-pub use Rattle.dh_histories.specs.CallsDone.{outcome_of, outcome_of_read}
+pub use Rattle.dh_laws.specs.CallsDone.{outcome_of, outcome_of_read}
 
 -- an outcome's text is printed, and whether it is a refusal is told
 abbrev pub TellsOutcome : Outcome → Text → Bool → Type 0

@@ -1,4 +1,4 @@
-//! Lines over a desk: what a line does and prints, and how a whole script is read and run.
+//! Scripts, read and run line by line, and single orders over a desk: what they do, print, and tell of refusals.
 #![tactic(auto)]
 
 mod fault;

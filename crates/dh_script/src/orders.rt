@@ -2,7 +2,7 @@
 
 ghost use Rattle.std.specs.Prelude.{◌≡◌, true, Some, string_bytes, IfOk, OnErr};
 ghost use Rattle.std.specs.Option.{is_none};
-ghost use Rattle.dh_paths.specs.Targets.{target_of};
+ghost use Rattle.dh_texts.specs.Targets.{target_of};
 ghost use Rattle.dh_desk.specs.Desk.{WorldGoesBy};
 ghost use Rattle.dh_script.specs.Explaining.{ExplainsOutcome, ExplainsUsage, GetsFor};
 ghost use Rattle.dh_script.specs.Explaining.{PerformsFor, PerformsSingleFor};
@@ -16,8 +16,8 @@ use crate::outcomes::{is_refusal, outcome_text, reason_of};
 use crate::reasons::Reason;
 use dh_desk::{Desk, commanded, pass_text, read_out};
 use dh_lines::{DeskOrder, Order};
-use dh_paths::{Target, Text, TextFault};
 use dh_reply::Read;
+use dh_texts::{Target, Text, TextFault};
 use dh_world::Outcome;
 use sqlite::Alter;
 use std::alloc::{AllocError, Global};

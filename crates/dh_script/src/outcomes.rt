@@ -9,9 +9,9 @@ ghost use Rattle.dh_script.specs.Outcomes.{is_refusal as refuses};
 ghost use Rattle.dh_script.specs.Reasons.{reason_of as spec_reason};
 
 use crate::reasons::Reason;
-use dh_paths::{Slug, Text};
 use dh_ports::Fault;
 use dh_reply::Reply;
+use dh_texts::{Slug, Text};
 use dh_world::{Answer, Outcome, Refusal};
 use std::alloc::{AllocError, Global};
 

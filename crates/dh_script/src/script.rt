@@ -4,7 +4,7 @@ ghost use Rattle.std.specs.Prelude.{◌≡◌, ◌+◌, true, false, map, string
 ghost use Rattle.std.specs.Prelude.{IfSome, IsErrOf, OnOk, OnErr, [], ◌∷◌, ◌++◌};
 ghost use Rattle.dh_ports.specs.Ports.{CountsAtLeast, CountsUpTo};
 ghost use Rattle.dh_desk.specs.Desk.{WorldGoesBy};
-ghost use Rattle.dh_word_tables.specs.Apps.{StandsFor};
+ghost use Rattle.dh_lines.specs.Apps.{StandsFor};
 ghost use Rattle.dh_lines.specs.App.{docs_app};
 ghost use Rattle.dh_lines.specs.Lines.{line_in};
 ghost use Rattle.dh_script.specs.Explaining.{DoesLineFor};

@@ -3,13 +3,13 @@ use Rattle.std.proofs.Common.{◌≡◌, ◌∙◌, ℕ, Bool, true, false, List
 use Rattle.std.specs.Prelude.{if◌then◌else◌}
 use Rattle.dh_world.specs.World.{Text, World}
 use Rattle.dh_world.specs.declared.outcome.Outcome.{Outcome}
-use Rattle.dh_histories.specs.declared.call.Call.{Call}
-use Rattle.dh_histories.specs.declared.call.Call.TheVariants.{Act, Ask}
-use Rattle.dh_histories.specs.CallsDone.{AreCallsDone}
-use Rattle.dh_histories.specs.Runs.{run}
-use Rattle.dh_histories.specs.Purge.{SlugSet, is_read_by, purge, remains, remaining_outcomes, strip}
-use Rattle.dh_histories.proofs.CallLemmas.{done_is_run}
-use Rattle.dh_histories.proofs.Purging.{purge_law}
+use Rattle.dh_laws.specs.declared.call.Call.{Call}
+use Rattle.dh_laws.specs.declared.call.Call.TheVariants.{Act, Ask}
+use Rattle.dh_laws.specs.CallsDone.{AreCallsDone}
+use Rattle.dh_laws.specs.Runs.{run}
+use Rattle.dh_laws.specs.Purge.{SlugSet, is_read_by, purge, remains, remaining_outcomes, strip}
+use Rattle.dh_laws.proofs.CallLemmas.{done_is_run}
+use Rattle.dh_laws.proofs.Purging.{purge_law}
 use Rattle.dh_server.specs.Serving.{Talk}
 use Rattle.dh_server.specs.Turns.{AreAnswered, Turn}
 use Rattle.dh_server.specs.Lives.{LifeLaw, reads_of, calls_in, done_calls, outcomes_in, done_outcomes}

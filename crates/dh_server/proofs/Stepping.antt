@@ -4,7 +4,7 @@ use Rattle.std.proofs.lemmas.Fn.{FoldsTo-push}
 use Rattle.std.specs.List.{FoldsTo}
 use Rattle.std.specs.Prelude.{if◌then◌else◌}
 use Rattle.dh_world.specs.World.{World}
-use Rattle.dh_histories.specs.declared.call.Call.{Call}
+use Rattle.dh_laws.specs.declared.call.Call.{Call}
 use Rattle.dh_ports.proofs.Taking.{counts_on, counts_from}
 use Rattle.dh_server.specs.Serving.{Talk, AsksClock, CountsExactly, HandsOn, is_message, messages_in}
 use Rattle.dh_server.specs.Turns.{AreAnswered, IsAnswered, ServesInTurn, ServesOne, Turn, answered_in}

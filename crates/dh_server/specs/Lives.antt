@@ -2,10 +2,10 @@
 use Rattle.std.specs.Prelude.{◌≡◌, ℕ, false, if◌then◌else◌, List, [], ◌∷◌, ◌++◌, Option, codes}
 use Rattle.dh_world.specs.World.{Text, World}
 use Rattle.dh_world.specs.declared.outcome.Outcome.{Outcome}
-use Rattle.dh_histories.specs.declared.call.Call.{Call}
-use Rattle.dh_histories.specs.CallsDone.{calls_left, outcomes_left}
-use Rattle.dh_histories.specs.Runs.{run}
-use Rattle.dh_histories.specs.Purge.{AreUnseen, IsFiled, SlugSet, is_read_by, purge, strip}
+use Rattle.dh_laws.specs.declared.call.Call.{Call}
+use Rattle.dh_laws.specs.CallsDone.{calls_left, outcomes_left}
+use Rattle.dh_laws.specs.Runs.{run}
+use Rattle.dh_laws.specs.Purge.{AreUnseen, IsFiled, SlugSet, is_read_by, purge, strip}
 use Rattle.dh_server.specs.Serving.{Talk}
 use Rattle.dh_server.specs.Turns.{AreAnswered, Turn}
 

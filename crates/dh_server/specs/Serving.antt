@@ -5,8 +5,8 @@ use Rattle.std.specs.List.{FoldsTo}
 use Rattle.dh_ports.specs.Ports.{CountsUpTo, CountsAtLeast}
 use Rattle.dh_world.specs.World.{World}
 use Rattle.dh_world.specs.declared.outcome.Outcome.{Outcome}
-use Rattle.dh_histories.specs.declared.call.Call.{Call}
-use Rattle.dh_histories.specs.CallsDone.{AreCallsDone}
+use Rattle.dh_laws.specs.declared.call.Call.{Call}
+use Rattle.dh_laws.specs.CallsDone.{AreCallsDone}
 use Rattle.dh_http.specs.Answers.{AnswersSource}
 use Rattle.dh_http.specs.declared.fault.Done.{Done}
 use Rattle.dh_http.specs.declared.fault.EngineFault.{EngineFault}

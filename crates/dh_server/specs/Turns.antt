@@ -2,7 +2,7 @@
 use Rattle.std.specs.Prelude.{◌≡◌, ◌⊎◌, ℕ, ◌+◌, Bool, false, not, if◌then◌else◌, List, [], ◌∷◌, length, Option, Result, Ok, Err, IfSome, is_ok}
 use Rattle.std.specs.Io.KnownBytes.{Appends}
 use Rattle.std.specs.List.{FoldsTo}
-use Rattle.dh_wire.specs.declared.reply.Reply.{Reply}
+use Rattle.dh_reads.specs.declared.reply.Reply.{Reply}
 use Rattle.dh_requests.specs.Request.{IsRequest}
 use Rattle.dh_requests.specs.declared.request.Request.{Request}
 use Rattle.dh_requests.specs.declared.request.Request.TheVariants as request
@@ -13,9 +13,9 @@ use Rattle.dh_world.specs.declared.command.Command.{Command}
 use Rattle.dh_world.specs.declared.outcome.Outcome.{Outcome}
 use Rattle.dh_world.specs.declared.outcome.Outcome.TheVariants.{Replied}
 use Rattle.dh_world.specs.declared.refusal.Refusal.{Refusal}
-use Rattle.dh_histories.specs.declared.call.Call.{Call}
-use Rattle.dh_histories.specs.declared.call.Call.TheVariants.{Act, Ask}
-use Rattle.dh_histories.specs.CallsDone.{AreCallsDone, outcome_of}
+use Rattle.dh_laws.specs.declared.call.Call.{Call}
+use Rattle.dh_laws.specs.declared.call.Call.TheVariants.{Act, Ask}
+use Rattle.dh_laws.specs.CallsDone.{AreCallsDone, outcome_of}
 use Rattle.dh_http.specs.Commands.{unavailable, command_reply}
 use Rattle.dh_http.specs.Answers.{IsWritten, is_bodiless, read_reply, refusal_reply}
 use Rattle.dh_http.specs.declared.fault.Done.{Done}

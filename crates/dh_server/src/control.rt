@@ -1,7 +1,7 @@
 //! What is done with the connections of a control socket.
 
 ghost use Rattle.std.specs.Prelude.{◌≡◌, ℕ, List, [], Option, None, false};
-ghost use Rattle.dh_histories.specs.declared.call.Call.{Call};
+ghost use Rattle.dh_laws.specs.declared.call.Call.{Call};
 ghost use Rattle.dh_http.specs.Desk.{WorldGoesBy};
 ghost use Rattle.dh_server.specs.Serving.{CountsExactly, DoesByCalls, Talk, talk_of};
 ghost use Rattle.dh_log.specs.declared.subject.Ordered.{Ordered};

@@ -1,4 +1,4 @@
-//! A server: one request a connection, one connection after another.
+//! Connections, one after another, as calls of a desk, each told to the log; a server's life.
 #![tactic(auto)]
 
 mod control;
@@ -8,7 +8,6 @@ mod laws;
 mod listening;
 mod log;
 mod serving;
-mod steady;
 mod stream;
 mod telling;
 mod timed;
@@ -21,7 +20,6 @@ pub use joined::Joined;
 pub use laws::life_law;
 pub use listening::{Came, Listen, Listening};
 pub use serving::{Tally, answer_heard, answer_joined, answer_order, serve_on};
-pub use steady::Steady;
 pub use stream::pause;
 pub use telling::put_or_lose;
 pub use timed::Timed;

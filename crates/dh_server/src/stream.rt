@@ -1,9 +1,8 @@
 //! Streams: how they are accepted, their limits and their end.
 
 use crate::listening::Came;
-use crate::steady::Steady;
 use crate::timed::Timed;
-use dh_ports::{Port, Source};
+use dh_ports::{Port, Source, Steady};
 use libc::net::{POLLIN, poll};
 use libc::types::pollfd;
 use std::net::{Shutdown, TcpListener, TcpStream};

@@ -4,8 +4,7 @@ ghost use Rattle.std.specs.Prelude.{◌≡◌, ◌++◌, true, false, List, Opti
 ghost use Rattle.dh_sockets.specs.Exchanges.{Exchange, OneMore, SendsMessage, exchange_of};
 
 use crate::socket::{connect_socket, name_of};
-use dh_ports::{Port, Sink, Source, put_all};
-use dh_server::Steady;
+use dh_ports::{Port, Sink, Source, Steady, put_all};
 use std::alloc::Global;
 use std::net::Shutdown;
 

@@ -13,9 +13,9 @@ use Rattle.dh_rows.proofs.Asks.{AnswersWith}
 use Rattle.dh_records.specs.Lists.{Lists}
 use Rattle.dh_records.specs.Typed.{AreTyped}
 use Rattle.dh_records.proofs.ReadingLemmas.{handed_on}
-use Rattle.dh_schema.specs.Calling.{AreAsked, LooksAtLists, StoreFaultHasCause, IsUnread}
-use Rattle.dh_schema.proofs.CallLemmas.{asked, on_store}
-use Rattle.dh_schema.specs.Tables.{HoldsTables, lists_of}
+use Rattle.dh_records.specs.Calling.{AreAsked, LooksAtLists, StoreFaultHasCause, IsUnread}
+use Rattle.dh_records.proofs.CallLemmas.{asked, on_store}
+use Rattle.dh_records.specs.Tables.{HoldsTables, lists_of}
 use Rattle.dh_tables.specs.Meanings.{AsksFor, AltersWhereHonest, IsChange, IsChangeBesidePages, IsQuery}
 use Rattle.dh_tables.proofs.Finding.{first_that}
 use Rattle.dh_tables.proofs.Kept.{all_kept}

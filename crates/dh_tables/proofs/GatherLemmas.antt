@@ -17,7 +17,7 @@ use Rattle.dh_ports.specs.Faults.{OnStore}
 use Rattle.dh_rows.specs.Calls.{IsBlamed, IsHonest, IsPlainLook, IsUnfit, OnlyLooks, StoreFaultHasCause, compiled_command}
 use Rattle.dh_rows.specs.Faults.{statement_fault}
 use Rattle.dh_rows.proofs.Calls.{answered_looks, back_clean, lasts, leaves_no_more, query_blames, read, refused_looks, shown_was}
-use Rattle.dh_schema.specs.InTurn.{blamed_before, goes_on, refused_on, same_on}
+use Rattle.dh_records.specs.InTurn.{blamed_before, goes_on, refused_on, same_on}
 use Rattle.dh_tables.specs.Gathering.{HasGivenSince, HasGivenAll, RefusesQuery}
 
 -- ---- results

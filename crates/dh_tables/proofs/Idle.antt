@@ -12,8 +12,8 @@ use Rattle.sqlite.proofs.Callers.{IsPlain, command_of, runs_as}
 use Rattle.dh_ports.specs.declared.fault.Fault.{Fault}
 use Rattle.dh_rows.specs.Calls.{whole, RunsStatement, IsRejected, RefusalRollsBack, KeepsFaults, StoreFaultHasCause, OnlyLooks, LeavesAllAsItWas, RefusalUndoes, IsSame, IsRefused, KeepsCommitted, LeavesNoMore}
 use Rattle.dh_rows.proofs.Calls.{IsBare, blames, fails, leaves_no_more}
-use Rattle.dh_schema.specs.Calling.{LooksAtLists}
-use Rattle.dh_schema.proofs.CallLemmas.{asked}
+use Rattle.dh_records.specs.Calling.{LooksAtLists}
+use Rattle.dh_records.proofs.CallLemmas.{asked}
 
 abbrev pub empty_text : List ℕ
 empty_text = codes ""

@@ -22,8 +22,8 @@ use Rattle.dh_rows.proofs.Read.{delete_of, delete_above_of, select_of, parameter
 use Rattle.dh_rows.proofs.Asks.{AnswersWith, WritesTable, delete, delete_above, insert, upsert, select}
 use Rattle.dh_records.specs.Lists.{Lists}
 use Rattle.dh_records.specs.Typed.{AreTyped}
-use Rattle.dh_schema.specs.Tables.{HoldsTables, lists_of}
-use Rattle.dh_schema.proofs.CallLemmas.{Changed}
+use Rattle.dh_records.specs.Tables.{HoldsTables, lists_of}
+use Rattle.dh_records.proofs.CallLemmas.{Changed}
 use Rattle.dh_tables.specs.Meanings.{AltersLists, AsksFor}
 use Rattle.dh_tables.proofs.Kept.{all_kept, all_added, all_put}
 

@@ -4,7 +4,7 @@ use Rattle.dh_rows.specs.Keyed.{by_key}
 use Rattle.dh_rows.proofs.Lists.{rises-sort, by_key_total}
 use Rattle.dh_records.specs.Codings as coding
 use Rattle.dh_records.specs.Constraints.{InOrder, AreInOrder}
-use Rattle.dh_schema.specs.Tables.{HoldsTables, lists_of}
+use Rattle.dh_records.specs.Tables.{HoldsTables, lists_of}
 
 pub in_order : (db : Database) → HoldsTables db → AreInOrder (lists_of db)
 in_order db h = record {

@@ -10,8 +10,8 @@ use Rattle.dh_rows.proofs.Effects.{TurnsTable, other_keeps}
 use Rattle.dh_records.specs.Codings as coding
 use Rattle.dh_records.specs.Lists.{Lists}
 use Rattle.dh_records.specs.Typed.{AreTyped, IsProject, IsLanguage, IsVersion, IsPage, IsUsed, IsPick, IsPass, IsHeld, IsRule, IsRedirect, IsAlias, IsRoute}
-use Rattle.dh_schema.specs.Tables.{HoldsTables, lists_of, meta, meta_table, project_table, lang_table, version_table, page_table, used_table, pick_table, pass_table, holds_table, rule_table, redirect_table, alias_table, route_table}
-use Rattle.dh_schema.proofs.CallLemmas.{Changed}
+use Rattle.dh_records.specs.Tables.{HoldsTables, lists_of, meta, meta_table, project_table, lang_table, version_table, page_table, used_table, pick_table, pass_table, holds_table, rule_table, redirect_table, alias_table, route_table}
+use Rattle.dh_records.proofs.CallLemmas.{Changed}
 
 abbrev pub if_so : Bool → Type 0 → Type 0 → Type 0
 if_so true A B = A

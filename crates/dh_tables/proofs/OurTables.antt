@@ -18,9 +18,9 @@ use Rattle.dh_records.specs.declared.records.AliasRow.{AliasRow}
 use Rattle.dh_records.specs.declared.records.RouteRow.{RouteRow}
 use Rattle.dh_records.specs.Typed.{IsProject, IsLanguage, IsVersion, IsPage, IsUsed, IsPick, IsPass, IsHeld, IsRule, IsRedirect, IsAlias, IsRoute}
 use Rattle.dh_records.specs.Codings.{projects, langs, versions, pages, used, picks, passes, held, rules, redirects, aliases, routes}
-use Rattle.dh_schema.specs.Tables.{HoldsTables, project_table, lang_table, version_table, page_table, used_table, pick_table, pass_table, holds_table, rule_table, redirect_table, alias_table, route_table}
-use Rattle.dh_schema.proofs.CallLemmas.{Changed}
-use Rattle.dh_schema.specs.ColumnLemmas.{project_simple, project_plain, project_back, lang_simple, lang_plain, lang_back, version_simple, version_plain, version_back, page_simple, page_plain, page_back, used_simple, used_plain, used_back, pick_simple, pick_plain, pick_back, pass_simple, pass_plain, pass_back, holds_simple, holds_plain, holds_back, rule_simple, rule_plain, rule_back, redirect_simple, redirect_plain, redirect_back, alias_simple, alias_plain, alias_back, route_simple, route_plain, route_back}
+use Rattle.dh_records.specs.Tables.{HoldsTables, project_table, lang_table, version_table, page_table, used_table, pick_table, pass_table, holds_table, rule_table, redirect_table, alias_table, route_table}
+use Rattle.dh_records.proofs.CallLemmas.{Changed}
+use Rattle.dh_records.specs.ColumnLemmas.{project_simple, project_plain, project_back, lang_simple, lang_plain, lang_back, version_simple, version_plain, version_back, page_simple, page_plain, page_back, used_simple, used_plain, used_back, pick_simple, pick_plain, pick_back, pass_simple, pass_plain, pass_back, holds_simple, holds_plain, holds_back, rule_simple, rule_plain, rule_back, redirect_simple, redirect_plain, redirect_back, alias_simple, alias_plain, alias_back, route_simple, route_plain, route_back}
 use Rattle.dh_tables.proofs.Others.{changed}
 use Rattle.dh_tables.proofs.OneTable.{TableOf}
 

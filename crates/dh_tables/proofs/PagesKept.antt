@@ -5,7 +5,7 @@ use Rattle.sqlite_trees.specs.declared.store.Store.{Ghosts}
 use Rattle.sqlite.specs.Effect.{Database}
 use Rattle.sqlite.specs.Held.{Held, state}
 use Rattle.dh_ports.specs.declared.fault.Fault.{Fault}
-use Rattle.dh_seen.specs.declared.found.Page.{Page}
+use Rattle.dh_reads.specs.declared.found.Page.{Page}
 use Rattle.dh_page_cache.specs.declared.key.PageKey.{PageKey}
 use Rattle.dh_page_cache.specs.declared.cache.PageCache.{PageCache}
 use Rattle.dh_page_cache.specs.Cached.{AddsNone, IsCached, pairs_in}
@@ -14,9 +14,9 @@ use Rattle.dh_page_cache.proofs.CachedLemmas.{none_cached}
 use Rattle.dh_rows.specs.Calls.{AreOurs, IsHonest, IsRefused, OnlyLooks, ShowsHonestly, committed, seen_now, whole}
 use Rattle.dh_records.specs.Lists.{Lists, is_page}
 use Rattle.dh_records.specs.declared.records.PageRow.{PageRow}
-use Rattle.dh_schema.specs.Calling.{ChangesLists}
-use Rattle.dh_schema.specs.Tables.{HoldsTables, lists_of}
-use Rattle.dh_schema.proofs.CallLemmas.{read_ours}
+use Rattle.dh_records.specs.Calling.{ChangesLists}
+use Rattle.dh_records.specs.Tables.{HoldsTables, lists_of}
+use Rattle.dh_records.proofs.CallLemmas.{read_ours}
 use Rattle.dh_tables.specs.Pages.{ArePagesOf, ArePagesRight, page_under}
 
 -- records with the same pages have the same page under each key

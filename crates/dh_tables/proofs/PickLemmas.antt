@@ -8,12 +8,12 @@ use Rattle.dh_rows.specs.Calls.{IsHonest, MakesNoCommit, MakesNoCommitInside, No
 use Rattle.dh_rows.specs.Keyed.{added}
 use Rattle.dh_records.specs.declared.records.DefaultRow.{DefaultRow}
 use Rattle.dh_ports.specs.declared.fault.Fault.{Fault}
-use Rattle.dh_schema.specs.Calling.{ChangesLists, ChangesListsInside}
+use Rattle.dh_records.specs.Calling.{ChangesLists, ChangesListsInside}
 use Rattle.dh_records.specs.Changes as change
 use Rattle.dh_records.specs.Codings as coding
-use Rattle.dh_schema.specs.InTurn.{goes_none, goes_on, goes_within}
+use Rattle.dh_records.specs.InTurn.{goes_none, goes_on, goes_within}
 use Rattle.dh_records.specs.Lists.{Lists, is_pick_of, default_row, ranked, picks_added}
-use Rattle.dh_schema.specs.Tables.{lists_of}
+use Rattle.dh_records.specs.Tables.{lists_of}
 use Rattle.dh_records.proofs.PickLists.{AreBelow, none_below, below_next, all_taken_out}
 
 -- the first of the names that are left

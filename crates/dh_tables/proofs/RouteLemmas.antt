@@ -10,9 +10,9 @@ use Rattle.dh_records.specs.Lists.{Lists, placed, put_all, route_row}
 use Rattle.dh_records.specs.declared.records.Route.{Route}
 use Rattle.dh_records.specs.declared.records.RouteRow.{RouteRow}
 use Rattle.dh_records.proofs.PlaceLemmas.{count_placed}
-use Rattle.dh_schema.specs.Calling.{ChangesLists, ChangesListsInside}
-use Rattle.dh_schema.specs.InTurn.{goes_within}
-use Rattle.dh_schema.specs.Tables.{lists_of}
+use Rattle.dh_records.specs.Calling.{ChangesLists, ChangesListsInside}
+use Rattle.dh_records.specs.InTurn.{goes_within}
+use Rattle.dh_records.specs.Tables.{lists_of}
 use Rattle.dh_tables.proofs.ListLemmas.{next_placed}
 use Rattle.dh_tables.proofs.TurnLemmas.{AreMade, made_of, none_made, one_made, more_goes, still_within, all_made, within_one, same_change, in_turn}
 

@@ -10,8 +10,8 @@ use Rattle.dh_records.specs.Constraints.{InOrder}
 use Rattle.dh_records.specs.Lists.{Lists, placed, put_all}
 use Rattle.dh_records.proofs.OrderLemmas.{put_in_order}
 use Rattle.dh_records.proofs.PlaceLemmas.{count_placed}
-use Rattle.dh_schema.specs.Calling.{LooksAtLists, ChangesLists, ChangesListsInside}
-use Rattle.dh_schema.specs.Tables.{lists_of}
+use Rattle.dh_records.specs.Calling.{LooksAtLists, ChangesLists, ChangesListsInside}
+use Rattle.dh_records.specs.Tables.{lists_of}
 use Rattle.dh_tables.specs.Listing.{Listing, all_put, is_own, key_of, put_one, list_set, without_behind}
 use Rattle.dh_tables.proofs.ListLemmas.{Has, has_at, has_back, has_put, put_there, places_apart, next_placed}
 use Rattle.dh_tables.proofs.TurnLemmas.{AreMade, made_of, none_made, one_made, still_within, all_made, within_one, makes_nothing, same_change, after_look, in_turn}

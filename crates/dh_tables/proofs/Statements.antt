@@ -30,7 +30,7 @@ use Rattle.dh_world.specs.World.{is_upload}
 use Rattle.dh_records.specs.Typed.{IsProject, IsLanguage, IsVersion, IsPage, IsUsed, IsPick, IsPass, IsHeld, IsRule, IsRedirect, IsAlias, IsRoute}
 use Rattle.dh_records.specs.Codings.{projects, langs, versions, pages, used, picks, passes, held, rules, redirects, aliases, routes, alias_number}
 use Rattle.dh_records.specs.Changes as change
-use Rattle.dh_schema.specs.Tables.{HoldsTables, lists_of, version_table, page_table, pick_table, rule_table, redirect_table, alias_table, route_table}
+use Rattle.dh_records.specs.Tables.{HoldsTables, lists_of, version_table, page_table, pick_table, rule_table, redirect_table, alias_table, route_table}
 use Rattle.dh_records.specs.Lists.{is_project, is_lang_of, is_version_of, is_version, is_page_of, is_page_in, is_page, is_used, same_op, is_pick_of, is_pass_of, is_pass, is_held, is_held_by, is_held_on, is_rule_of, is_rule_behind, is_redirect_of, is_redirect_behind, is_alias_of, is_alias_at, same_alias, is_route_of, is_route_in}
 use Rattle.dh_tables.proofs.Matching.{equal_text, above_place, equal_alias, equal_op, equal_place}
 use Rattle.dh_tables.specs.Listing.{is_redirect_at}

@@ -5,7 +5,7 @@ use Rattle.sqlite.specs.Held.{Held, state}
 use Rattle.sqlite.specs.State.{HasCleanDisk}
 use Rattle.dh_rows.specs.Calls.{MakesNoCommitInside, IsHonest}
 use Rattle.dh_records.specs.Lists.{Lists}
-use Rattle.dh_schema.specs.InTurn.{lasts_on}
+use Rattle.dh_records.specs.InTurn.{lasts_on}
 use Rattle.dh_tables.specs.Going.{ChangesRecords, NowShowsRecords, records}
 use Rattle.dh_world.specs.declared.refusal.Refusal.{Refusal}
 

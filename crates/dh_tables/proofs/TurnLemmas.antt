@@ -7,9 +7,9 @@ use Rattle.sqlite.specs.State.{HasCleanDisk}
 use Rattle.dh_rows.specs.Calls.{IsHonest, MakesNoCommit, NowShows, seen_now}
 use Rattle.dh_ports.specs.declared.fault.Fault.{Fault}
 use Rattle.dh_records.specs.Lists.{Lists}
-use Rattle.dh_schema.specs.Calling.{LooksAtLists, ChangesLists, ChangesListsInside}
-use Rattle.dh_schema.specs.InTurn.{goes_none, goes_on, goes_within}
-use Rattle.dh_schema.specs.Tables.{lists_of}
+use Rattle.dh_records.specs.Calling.{LooksAtLists, ChangesLists, ChangesListsInside}
+use Rattle.dh_records.specs.InTurn.{goes_none, goes_on, goes_within}
+use Rattle.dh_records.specs.Tables.{lists_of}
 
 -- a change for each
 abbrev pub made_of : {Y : Type 0} → (Y → Lists → Lists) → List Y → Lists → Lists

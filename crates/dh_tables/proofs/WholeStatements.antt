@@ -12,8 +12,8 @@ use Rattle.dh_rows.specs.Calls.{seen_now}
 use Rattle.dh_records.specs.Codings.{aliases, projects, routes}
 use Rattle.dh_records.specs.Lists.{Lists}
 use Rattle.dh_records.specs.Typed.{IsAlias, IsProject, IsRoute}
-use Rattle.dh_schema.specs.Calling.{ReadsAll}
-use Rattle.dh_schema.specs.Tables.{HoldsTables, lists_of}
+use Rattle.dh_records.specs.Calling.{ReadsAll}
+use Rattle.dh_records.specs.Tables.{HoldsTables, lists_of}
 use Rattle.dh_tables.proofs.OneTable.{asks, deletes}
 use Rattle.dh_tables.proofs.OurTables.{of_aliases, of_projects, of_routes}
 use Rattle.dh_tables.specs.Clearing.{without_aliases, without_routes}

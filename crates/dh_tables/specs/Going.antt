@@ -5,8 +5,8 @@ use Rattle.sqlite.specs.Held.{Held, state}
 use Rattle.sqlite.specs.State.{HasCleanDisk}
 use Rattle.dh_rows.specs.Calls.{IsHonest, MakesNoCommit, MakesNoCommitInside, seen_now, committed}
 use Rattle.dh_records.specs.Lists.{Lists}
-pub use Rattle.dh_schema.specs.Calling.{HasRecords, IsWithin, LacksKey}
-use Rattle.dh_schema.specs.Tables.{lists_of}
+pub use Rattle.dh_records.specs.Calling.{HasRecords, IsWithin, LacksKey}
+use Rattle.dh_records.specs.Tables.{lists_of}
 use Rattle.dh_world.specs.CheckResults.{IsFault}
 use Rattle.dh_world.specs.declared.answer.Answer.{Answer}
 use Rattle.dh_world.specs.declared.refusal.Refusal.{Refusal}

@@ -5,7 +5,7 @@ use Rattle.std.proofs.Common.{refl}
 use Rattle.sqlite_value.specs.Order.{Row}
 use Rattle.sqlite_value.specs.declared.value.Value.TheVariants.{Int, Text}
 use Rattle.dh_rows.specs.Keyed.{put}
-use Rattle.dh_rules.specs.declared.rule.Rule.{Rule}
+use Rattle.dh_versions.specs.declared.rule.Rule.{Rule}
 use Rattle.dh_redirects.specs.declared.redirect.Redirect.{Redirect}
 use Rattle.dh_records.specs.Lists.{Lists, placed, put_all, rule_row, redirect_row}
 use Rattle.dh_records.specs.declared.records.RuleRow.{RuleRow}

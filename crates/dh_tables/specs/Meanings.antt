@@ -10,8 +10,8 @@ use Rattle.dh_rows.specs.Calls.{EditsTo, IsHonest, IsPlainEdit}
 use Rattle.dh_rows.proofs.Asks.{AnswersWith}
 use Rattle.dh_records.specs.Lists.{Lists}
 use Rattle.dh_records.specs.Typed.{AreTyped}
-use Rattle.dh_schema.specs.Tables.{HoldsTables, lists_of}
-use Rattle.dh_schema.proofs.CallLemmas.{Changed}
+use Rattle.dh_records.specs.Tables.{HoldsTables, lists_of}
+use Rattle.dh_records.proofs.CallLemmas.{Changed}
 
 -- The text asks tables of ours for the records of a list that pass a test.
 pub record AsksFor {X : Type 0} (encode : X → Row) (typed : X → Type 0) (part : Lists → List X) (test : X → Bool) (s : State) (sql : List ℕ) (params : Row) : Type 0 where

@@ -3,13 +3,13 @@ use Rattle.std.specs.Prelude.{◌≡◌, Option, Some, find}
 use Rattle.std.specs.Option.{option_map}
 use Rattle.sqlite_trees.specs.declared.store.Store.{Ghosts}
 use Rattle.sqlite.specs.Held.{Held}
-use Rattle.dh_seen.specs.declared.found.Page.{Page}
+use Rattle.dh_reads.specs.declared.found.Page.{Page}
 use Rattle.dh_page_cache.specs.declared.cache.PageCache.{PageCache}
 use Rattle.dh_page_cache.specs.Cached.{IsCached}
 use Rattle.dh_page_cache.specs.Keys.{KeyTexts}
 use Rattle.dh_rows.specs.Calls.{IsHonest, committed, seen_now}
 use Rattle.dh_records.specs.Lists.{Lists, is_page}
-use Rattle.dh_schema.specs.Tables.{lists_of}
+use Rattle.dh_records.specs.Tables.{lists_of}
 
 -- the page that the records have under a key
 abbrev pub page_under : KeyTexts → Lists → Option Page

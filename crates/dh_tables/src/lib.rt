@@ -1,4 +1,4 @@
-//! The records of a documentation host in SQL tables over any store: transactions, and calls that look records up and change them.
+//! `Tables`: transactions, and a typed call for each thing that is asked or changed.
 #![tactic(auto)]
 
 pub mod tables;

@@ -5,9 +5,9 @@ ghost use Rattle.std.specs.FinMap.{empty};
 ghost use Rattle.sqlite.specs.Held.{state};
 ghost use Rattle.sqlite.specs.Steps.{over_memory};
 ghost use Rattle.dh_rows.specs.Calls.{AreOurs, IsHonest, OnlyBegins, OnlyCommits, OnlyUndoes, CrashLeaves, LeavesCommitted, LeavesNoMore, seen_now, committed};
-ghost use Rattle.dh_schema.specs.Calling.{LooksAtLists, IsSettled, KeepsSchema};
-ghost use Rattle.dh_schema.specs.Making.{no_lists};
-ghost use Rattle.dh_schema.specs.Tables.{HoldsTables, lists_of};
+ghost use Rattle.dh_records.specs.Calling.{LooksAtLists, IsSettled, KeepsSchema};
+ghost use Rattle.dh_records.specs.Making.{no_lists};
+ghost use Rattle.dh_records.specs.Tables.{HoldsTables, lists_of};
 ghost use Rattle.dh_records.specs.Lists as spec;
 
 mod defaults;
@@ -26,8 +26,8 @@ mod whole;
 
 use dh_page_cache::PageCache;
 use dh_ports::Fault;
+use dh_records::make_tables;
 use dh_rows::{begin, commit, rollback, run};
-use dh_schema::make_tables;
 pub use listing::Listed;
 pub use page_sizes::PageSize;
 use sqlite::{Alter, Connection, MemStore};
@@ -50,7 +50,7 @@ impl<S: Alter + Drop> Drop for Tables<S> {
 impl<S: Alter> Model for Tables<S> {
     ghost use Rattle.sqlite.specs.Held.{Held, held_code, state};
     ghost use Rattle.dh_rows.specs.Calls.{AreOurs};
-    ghost use Rattle.dh_schema.specs.Tables.{HoldsTables};
+    ghost use Rattle.dh_records.specs.Tables.{HoldsTables};
     ghost use Rattle.dh_tables.specs.Pages.{ArePagesRight};
 
     ghost Value = { Held S };

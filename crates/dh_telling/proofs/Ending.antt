@@ -25,9 +25,9 @@ use Rattle.dh_lines.specs.declared.lines.Order.TheVariants as order
 use Rattle.dh_lines.specs.declared.lines.DeskOrder.{DeskOrder}
 use Rattle.dh_lines.specs.declared.lines.DeskOrder.TheVariants as desk
 use Rattle.dh_lines.specs.declared.lines.ProgramOrder.TheVariants as program
-use Rattle.dh_lists.specs.declared.lists.ListFault.{ListFault}
-use Rattle.dh_lists.specs.declared.lists.ListFault.TheVariants as listed
-use Rattle.dh_lists.specs.declared.lists.RecordFault.{RecordFault}
+use Rattle.dh_redirect_lists.specs.declared.lists.ListFault.{ListFault}
+use Rattle.dh_redirect_lists.specs.declared.lists.ListFault.TheVariants as listed
+use Rattle.dh_redirect_lists.specs.declared.lists.RecordFault.{RecordFault}
 use Rattle.dh_script.specs.Running.{RunsScript}
 use Rattle.dh_lines.specs.Lines.{asking, line_in}
 use Rattle.dh_telling.specs.Ends.{Ended, EndsError, EndsHelp, EndsScript, EndsChecked, EndsOver, EndsOrdered, EndsList, EndsAsked, EndsFirst, EndsVersion, EndsWords}

@@ -19,8 +19,8 @@ use Rattle.dh_lines.specs.declared.lines.Line.{Line}
 use Rattle.dh_lines.specs.declared.lines.Order.{Order}
 use Rattle.dh_lines.specs.declared.lines.Order.TheVariants as order
 use Rattle.dh_lines.specs.declared.lines.ProgramOrder.TheVariants as program
-use Rattle.dh_lists.specs.declared.lists.ListFault.{ListFault}
-use Rattle.dh_lists.specs.declared.lists.ListFault.TheVariants as list
+use Rattle.dh_redirect_lists.specs.declared.lists.ListFault.{ListFault}
+use Rattle.dh_redirect_lists.specs.declared.lists.ListFault.TheVariants as list
 use Rattle.dh_script.specs.Running.{RunsScript}
 use Rattle.dh_telling.specs.Failing.{may_fail, is_of_output}
 use Rattle.dh_telling.specs.Orders.{has_bad_target, OrdersImport, bad_record}

@@ -2,12 +2,12 @@
 use Rattle.std.specs.Prelude.{◌≡◌, ◌⊎◌, ℕ, List, [], ◌∷◌, ◌++◌, Option, Some, None, Result, Ok}
 use Rattle.std.specs.List.{slice_split}
 use Rattle.dh_control.specs.Messages.{is_nul, body_of, behind, rest_for, host_and_list, words_mark, line_mark, import_mark}
-use Rattle.dh_histories.specs.declared.call.Call.{Call}
-use Rattle.dh_histories.specs.declared.call.Call.TheVariants.{Act}
+use Rattle.dh_laws.specs.declared.call.Call.{Call}
+use Rattle.dh_laws.specs.declared.call.Call.TheVariants.{Act}
 use Rattle.dh_lines.specs.Lines.{asking, line_in}
 use Rattle.dh_lines.specs.declared.lines.Line.{Line}
 use Rattle.dh_lines.specs.declared.lines.Order.{Order}
-use Rattle.dh_lists.specs.Lists.{ReadsList}
+use Rattle.dh_redirect_lists.specs.Lists.{ReadsList}
 use Rattle.dh_redirects.specs.declared.redirect.Redirect.{Redirect}
 use Rattle.dh_script.specs.LineCalls.{add_call, call_of_line, call_of_order}
 use Rattle.dh_script.specs.Running.{words_in}

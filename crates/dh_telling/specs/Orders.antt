@@ -3,7 +3,7 @@ use Rattle.std.specs.Prelude.{◌≡◌, ◌⊎◌, ℕ, ◌+◌, ◌≤◌, Boo
 use Rattle.std.specs.Fmt.{decimal}
 use Rattle.std.specs.Io.KnownBytes.{Appends}
 use Rattle.std.specs.Option.{option_map}
-use Rattle.dh_histories.specs.declared.call.Call.{Call}
+use Rattle.dh_laws.specs.declared.call.Call.{Call}
 use Rattle.dh_http.specs.Answers.{AnswersSource, WritesAnswer}
 use Rattle.dh_http.specs.declared.fault.Done.{Done as Answered}
 use Rattle.dh_lines.specs.Lines.{ordering}
@@ -11,9 +11,9 @@ use Rattle.dh_lines.specs.declared.lines.Order.{Order}
 use Rattle.dh_lines.specs.declared.lines.Order.TheVariants.{Desk, Program}
 use Rattle.dh_lines.specs.declared.lines.DeskOrder.TheVariants.{Act, Get}
 use Rattle.dh_lines.specs.declared.lines.ProgramOrder.TheVariants.{Script, Answer, Serve}
-use Rattle.dh_lists.specs.Lists.{ReadsList}
-use Rattle.dh_lists.specs.declared.lists.ListFault.{ListFault}
-use Rattle.dh_paths.specs.Targets.{target_of}
+use Rattle.dh_redirect_lists.specs.Lists.{ReadsList}
+use Rattle.dh_redirect_lists.specs.declared.lists.ListFault.{ListFault}
+use Rattle.dh_texts.specs.Targets.{target_of}
 use Rattle.dh_script.specs.Reading.{writer_failed}
 use Rattle.dh_script.specs.Running.{RunsScript}
 use Rattle.dh_script.specs.Script.{PerformsSingle}

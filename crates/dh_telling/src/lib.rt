@@ -1,4 +1,4 @@
-//! How a run of the program ends, and how that is told.
+//! How a run of the program ends, and what is printed of it.
 #![tactic(auto)]
 
 mod failure;

@@ -1,2 +1,10 @@
 pub mod SlugLemmas
 pub mod NumberLemmas
+pub mod AddressLemmas
+pub mod AsciiLemmas
+pub mod EscapeLemmas
+pub mod HostForms
+pub mod HostLemmas
+pub mod PartLemmas
+pub mod TargetForms
+pub mod TargetLemmas

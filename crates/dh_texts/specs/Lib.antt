@@ -3,3 +3,7 @@ pub mod Storages
 pub mod Texts
 pub mod SlugOfName
 pub mod Numbers
+pub mod Escapes
+pub mod Places
+pub mod Targets
+pub mod Forms

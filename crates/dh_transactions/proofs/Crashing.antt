@@ -7,7 +7,7 @@ use Rattle.sqlite.specs.Held.{Held, state}
 use Rattle.dh_rows.specs.Calls.{IsHonest, ShowsHonestly, LeavesNoMore, KeepsCommitted, seen_now, committed}
 use Rattle.dh_world.specs.declared.answer.Answer.{Answer}
 use Rattle.dh_records.specs.Lists.{Lists, world_of}
-use Rattle.dh_schema.specs.Tables.{lists_of}
+use Rattle.dh_records.specs.Tables.{lists_of}
 use Rattle.dh_tables.specs.Going.{StaysHonest}
 use Rattle.dh_world.specs.declared.command.Command.{Command}
 use Rattle.dh_world.specs.declared.refusal.Refusal.{Refusal}

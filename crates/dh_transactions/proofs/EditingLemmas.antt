@@ -4,24 +4,24 @@ use Rattle.std.specs.FinMap.{get, insert}
 use Rattle.std.specs.Option.{option_map_or}
 use Rattle.sqlite_trees.specs.declared.store.Store.{Ghosts}
 use Rattle.sqlite.specs.Held.{Held}
-use Rattle.dh_plans.specs.Edits.{edited, all_edited, MayEdit, MayEditAll}
-use Rattle.dh_plans.specs.declared.edits.Edit.{Edit}
-use Rattle.dh_plans.specs.declared.edits.Edit.TheVariants.{AddLang, PutVersion, PutWithoutPages, RemoveVersion, PutPage, RemovePages, SetDefaults, SetRules, SetRedirects, AddPass, RemovePass, Grant, Revoke, PutRetryAnswer}
+use Rattle.dh_commands.specs.Edits.{edited, all_edited, MayEdit, MayEditAll}
+use Rattle.dh_commands.specs.declared.edits.Edit.{Edit}
+use Rattle.dh_commands.specs.declared.edits.Edit.TheVariants.{AddLang, PutVersion, PutWithoutPages, RemoveVersion, PutPage, RemovePages, SetDefaults, SetRules, SetRedirects, AddPass, RemovePass, Grant, Revoke, PutRetryAnswer}
 use Rattle.dh_rows.specs.Calls.{MakesNoCommit, MakesNoCommitInside, IsHonest}
 use Rattle.dh_records.specs.Constraints.{AreSound}
 use Rattle.dh_records.specs.Lists.{Lists, base_of, world_of}
-use Rattle.dh_derived.specs.Renewed.{renewed, renewed_at}
-use Rattle.dh_derived.specs.Rightness.{AreRight}
-use Rattle.dh_derived.specs.declared.renewals.Renewal.{Renewal}
-use Rattle.dh_derived.specs.declared.renewals.Renewal.TheVariants.{Nothing}
-use Rattle.dh_derived.proofs.RenewedLemmas.{renewed_base}
-use Rattle.dh_derived.proofs.RightLemmas.{right_but_covered, right_but_nothing, right_but_still}
-use Rattle.dh_derived.proofs.SoundLemmas.{sound_project}
-use Rattle.dh_derived.specs.Renewals.{AreRightBut, FitsBehind}
+use Rattle.dh_stored_names.specs.Renewed.{renewed, renewed_at}
+use Rattle.dh_stored_names.specs.Rightness.{AreRight}
+use Rattle.dh_stored_names.specs.declared.renewals.Renewal.{Renewal}
+use Rattle.dh_stored_names.specs.declared.renewals.Renewal.TheVariants.{Nothing}
+use Rattle.dh_stored_names.proofs.RenewedLemmas.{renewed_base}
+use Rattle.dh_stored_names.proofs.RightLemmas.{right_but_covered, right_but_nothing, right_but_still}
+use Rattle.dh_stored_names.proofs.SoundLemmas.{sound_project}
+use Rattle.dh_stored_names.specs.Renewals.{AreRightBut, FitsBehind}
 use Rattle.dh_renewal.specs.Finding.{CoversEdit}
 use Rattle.dh_renewal.specs.Renewing.{LacksRenewal}
 use Rattle.dh_renewal.proofs.SameBase.{same_sound, same_world}
-use Rattle.dh_schema.specs.InTurn.{goes_anywhere}
+use Rattle.dh_records.specs.InTurn.{goes_anywhere}
 use Rattle.dh_tables.specs.Going.{HasRecords, ChangesRecords, NowShowsRecords, records}
 use Rattle.dh_tables.proofs.Together.{goes_within_on}
 use Rattle.dh_edits.specs.RowEdits.{rows_edited, RowsMay}

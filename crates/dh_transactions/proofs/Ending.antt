@@ -8,7 +8,7 @@ use Rattle.dh_ports.specs.declared.fault.Fault.{Fault}
 use Rattle.dh_ports.specs.declared.fault.Fault.TheVariants as fault
 use Rattle.dh_rows.specs.Calls.{IsNotCommitted, IsNotUndone, IsRefused}
 use Rattle.dh_records.specs.Lists.{Lists}
-use Rattle.dh_schema.specs.Tables.{lists_of}
+use Rattle.dh_records.specs.Tables.{lists_of}
 use Rattle.dh_tables.specs.Going.{IsOver, last_records}
 use Rattle.dh_transactions.specs.Steps.{IsNotEnded, TakesStep}
 use Rattle.dh_world.specs.CheckResults.{refusal_from, IsFault}

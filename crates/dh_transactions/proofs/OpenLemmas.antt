@@ -6,10 +6,10 @@ use Rattle.std.specs.FinMap.{FinMap, empty, entries, get, insert, retain_keys, g
 use Rattle.std.specs.Option.{option_and_then, option_map, option_or}
 use Rattle.std.proofs.lemmas.List.{nil_from_length}
 use Rattle.std.proofs.lemmas.Map.Lookups.{exact_bytes}
-use Rattle.dh_checks.specs.Commands.{command_of}
-use Rattle.dh_plans.specs.Plans.{OpensProject}
-use Rattle.dh_checks.specs.declared.checking.CheckedChange.{CheckedChange}
-use Rattle.dh_checks.specs.declared.checked.NewProject.{NewProject}
+use Rattle.dh_commands.specs.Commands.{command_of}
+use Rattle.dh_commands.specs.Plans.{OpensProject}
+use Rattle.dh_commands.specs.declared.checking.CheckedChange.{CheckedChange}
+use Rattle.dh_commands.specs.declared.checked.NewProject.{NewProject}
 use Rattle.sqlite_keyed.proofs.ListLemmas.{filter_none}
 use Rattle.dh_rows.specs.Keyed.{IsFreeKey}
 use Rattle.dh_records.proofs.ChangeLemmas.{world_with_project}
@@ -29,15 +29,15 @@ use Rattle.dh_transactions.proofs.Turning.{turn_at}
 use Rattle.dh_transactions.specs.Opening.{project_row, main_lang_row, with_row, with_project}
 use Rattle.dh_records.specs.Constraints.{AreSound}
 use Rattle.dh_transactions.specs.Steps.{TakesTurn}
-use Rattle.dh_aliases.specs.Names.{names_of}
-use Rattle.dh_aliases.specs.declared.names.Names.{Names}
-use Rattle.dh_aliases.proofs.NameLemmas.{names_by_versions}
-use Rattle.dh_classes.specs.Classes.{sees}
-use Rattle.dh_seen.specs.SeenProject.{alias_to, own_name}
+use Rattle.dh_laws.specs.Names.{names_of}
+use Rattle.dh_laws.specs.declared.names.Names.{Names}
+use Rattle.dh_laws.proofs.NameLemmas.{names_by_versions}
+use Rattle.dh_laws.specs.Classes.{sees}
+use Rattle.dh_reads.specs.SeenProject.{alias_to, own_name}
 use Rattle.dh_versions.specs.Aliases.{latest_of, stable_of}
 use Rattle.dh_versions.specs.declared.version.Version.{Version}
-use Rattle.dh_derived.specs.Renewed.{no_names}
-use Rattle.dh_derived.specs.Rightness.{class_in, due_at, due_in, has_class, named, routes_due, AreRight, AreRightAt}
+use Rattle.dh_stored_names.specs.Renewed.{no_names}
+use Rattle.dh_stored_names.specs.Rightness.{class_in, due_at, due_in, has_class, named, routes_due, AreRight, AreRightAt}
 use Rattle.dh_world.specs.Changes.{new_project}
 use Rattle.dh_world.specs.Seen.{default_of}
 use Rattle.dh_world.specs.Step.{settled}

@@ -1,8 +1,8 @@
 -- What a command makes of the world, by what is found under its host.
 use Rattle.std.proofs.Common.{◌≡◌, ◌⊎◌, None, Option, Result, Ok, Err, IfOk, IfErr, sym, ap, ◌∙◌, subst, inl, inr}
 use Rattle.std.specs.FinMap.{get}
-use Rattle.dh_checks.specs.Commands.{change_of, command_of}
-use Rattle.dh_checks.specs.declared.checking.CheckedChange.{CheckedChange}
+use Rattle.dh_commands.specs.Commands.{change_of, command_of}
+use Rattle.dh_commands.specs.declared.checking.CheckedChange.{CheckedChange}
 use Rattle.dh_records.specs.Lists.{Lists, world_of}
 use Rattle.dh_transactions.specs.Steps.{AreConsistent, TakesTurn, TakesStep}
 use Rattle.dh_world.specs.CheckResults.{IsFault}

@@ -2,15 +2,15 @@
 use Rattle.std.proofs.Common.{◌≡◌, ◌⊎◌, Some, Result, Ok, Err, sym, ap, ◌∙◌, subst, inl, inr}
 use Rattle.std.specs.Result.{IsErrAnd}
 use Rattle.std.proofs.lemmas.Result.{err_from_is_err_and}
-use Rattle.dh_checks.specs.Commands.{change_of, command_of}
-use Rattle.dh_plans.specs.Edits.{MayEditAll, MayRunOut, all_edited}
-use Rattle.dh_plans.specs.Knowing.{DecidesChange}
-use Rattle.dh_plans.specs.Planned.{Planned}
-use Rattle.dh_checks.specs.declared.checking.CheckedChange.{CheckedChange}
-use Rattle.dh_plans.specs.declared.facts.Facts.{Facts}
+use Rattle.dh_commands.specs.Commands.{change_of, command_of}
+use Rattle.dh_commands.specs.Edits.{MayEditAll, MayRunOut, all_edited}
+use Rattle.dh_commands.specs.Knowing.{DecidesChange}
+use Rattle.dh_commands.specs.Planned.{Planned}
+use Rattle.dh_commands.specs.declared.checking.CheckedChange.{CheckedChange}
+use Rattle.dh_commands.specs.declared.facts.Facts.{Facts}
 use Rattle.dh_records.specs.Lists.{Lists, world_of}
 use Rattle.dh_transactions.proofs.Turning.{turn_at}
-use Rattle.dh_facts.specs.Finding.{FindsFacts}
+use Rattle.dh_edits.specs.Finding.{FindsFacts}
 use Rattle.dh_transactions.specs.Editing.{ChangesProject, MayChange}
 use Rattle.dh_transactions.specs.Steps.{AreConsistent, TakesTurn}
 use Rattle.dh_world.specs.Changes as world

@@ -6,7 +6,7 @@ use Rattle.sqlite.specs.Held.{Held, state}
 use Rattle.sqlite.specs.State.{HasCleanDisk}
 use Rattle.dh_rows.specs.Calls.{IsHonest}
 use Rattle.dh_records.specs.Lists.{Lists, world_of}
-use Rattle.dh_schema.specs.Tables.{lists_of}
+use Rattle.dh_records.specs.Tables.{lists_of}
 use Rattle.dh_tables.specs.Going.{records, last_records}
 use Rattle.dh_world.specs.Step.{step}
 use Rattle.dh_world.specs.declared.answer.Answer.{Answer}

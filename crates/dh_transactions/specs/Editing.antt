@@ -7,9 +7,9 @@ use Rattle.dh_rows.specs.Calls.{MakesNoCommitInside, IsHonest}
 use Rattle.dh_records.specs.Constraints.{AreSound}
 use Rattle.dh_records.specs.Lists.{Lists, world_of}
 use Rattle.dh_tables.specs.Going.{NowShowsRecords, records}
-use Rattle.dh_derived.specs.Consistent.{AreConsistent}
-use Rattle.dh_derived.specs.Renewals.{AreRightBut}
-use Rattle.dh_derived.specs.declared.renewals.Renewal.{Renewal}
+use Rattle.dh_stored_names.specs.Consistent.{AreConsistent}
+use Rattle.dh_stored_names.specs.Renewals.{AreRightBut}
+use Rattle.dh_stored_names.specs.declared.renewals.Renewal.{Renewal}
 use Rattle.dh_world.specs.CheckResults.{IsFault}
 use Rattle.dh_world.specs.World.{Text, Project}
 use Rattle.dh_world.specs.declared.refusal.Refusal.{Refusal}

@@ -1,5 +1,5 @@
 -- The records of a project that a command makes.
-use Rattle.dh_checks.specs.declared.checked.NewProject.{NewProject}
+use Rattle.dh_commands.specs.declared.checked.NewProject.{NewProject}
 use Rattle.dh_rows.specs.Keyed.{added}
 use Rattle.dh_records.specs.Codings as coding
 use Rattle.dh_records.specs.Lists.{Lists}

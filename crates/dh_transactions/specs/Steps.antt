@@ -7,7 +7,7 @@ use Rattle.sqlite.specs.State.{HasCleanDisk}
 use Rattle.dh_rows.specs.Calls.{IsHonest, IsNotCommitted, IsNotUndone, KeepsFaults, LeavesNoMore}
 use Rattle.dh_records.specs.Lists.{Lists, world_of}
 use Rattle.dh_tables.specs.Going.{IsOver, last_records}
-pub use Rattle.dh_derived.specs.Consistent.{AreConsistent}
+pub use Rattle.dh_stored_names.specs.Consistent.{AreConsistent}
 use Rattle.dh_transactions.specs.Crashes.{LeavesStep}
 use Rattle.dh_ports.specs.declared.fault.Fault.{Fault}
 use Rattle.dh_world.specs.CheckResults.{IsFault, refusal_from}

@@ -1,15 +1,15 @@
 //! Making the edits of a plan, and the stored rows right behind the last.
-ghost use Rattle.dh_plans.specs.Edits.{MayEdit, MayEditAll, all_edited, edited};
+ghost use Rattle.dh_commands.specs.Edits.{MayEdit, MayEditAll, all_edited, edited};
 ghost use Rattle.dh_tables.specs.Going.{HasRecords, IsWithin};
-ghost use Rattle.dh_derived.specs.Renewals.{FitsBehind};
+ghost use Rattle.dh_stored_names.specs.Renewals.{FitsBehind};
 ghost use Rattle.dh_transactions.specs.Editing.{EditsProject, EditsProjectBut, MayChange, MayChangeBut};
 
-use dh_derived::stays_covered;
+use dh_commands::Edit;
 use dh_edits::make_edit;
-use dh_paths::HostName;
-use dh_plans::Edit;
 use dh_renewal::{Renewal, renew, renewal_for};
+use dh_stored_names::stays_covered;
 use dh_tables::Tables;
+use dh_texts::HostName;
 use dh_world::Refusal;
 use sqlite::Alter;
 use std::alloc::Global;

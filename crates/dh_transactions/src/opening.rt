@@ -1,7 +1,7 @@
 //! Making a project where the host has none.
 ghost use Rattle.std.specs.Prelude.{◌≡◌, false, None, IfOk, OnOk};
 ghost use Rattle.std.specs.FinMap.{get};
-ghost use Rattle.dh_checks.specs.Commands.{command_of};
+ghost use Rattle.dh_commands.specs.Commands.{command_of};
 ghost use Rattle.dh_rows.specs.Calls.{IsHonest, MakesNoCommitInside};
 ghost use Rattle.dh_records.specs.Codings as coding;
 ghost use Rattle.dh_records.specs.Lists.{world_of};
@@ -11,10 +11,9 @@ ghost use Rattle.dh_transactions.specs.Opening.{project_row, main_lang_row, with
 ghost use Rattle.dh_records.specs.Constraints.{AreSound};
 ghost use Rattle.dh_transactions.specs.Steps.{AreConsistent, TakesTurn};
 
-use dh_checks::{CheckedChange, NewProject, ProjectSettings};
-use dh_decisions::open;
-use dh_paths::{HostName, Lang};
+use dh_commands::{CheckedChange, NewProject, ProjectSettings, open};
 use dh_tables::{LangRow, ProjectRow, Tables};
+use dh_texts::{HostName, Lang};
 use dh_world::{Answer, Refusal};
 use sqlite::Alter;
 use std::alloc::{AllocError, Global};

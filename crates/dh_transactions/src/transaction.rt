@@ -2,7 +2,7 @@
 ghost use Rattle.std.specs.Prelude.{◌≡◌, ◌⊎◌, false, Ok, Err, IfOk, IfErr, OnOk};
 ghost use Rattle.sqlite.specs.Held.{state};
 ghost use Rattle.sqlite.specs.State.{HasCleanDisk};
-ghost use Rattle.dh_checks.specs.Commands.{command_of};
+ghost use Rattle.dh_commands.specs.Commands.{command_of};
 ghost use Rattle.dh_rows.specs.Calls.{IsHonest, KeepsFaults, LeavesNoMore, MakesNoCommit};
 ghost use Rattle.dh_world.specs.CheckResults.{IsFault};
 ghost use Rattle.dh_transactions.specs.Crashes.{LeavesEnd};
@@ -11,12 +11,10 @@ ghost use Rattle.dh_transactions.specs.Steps.{AreConsistent, IsNotEnded, IsOneTr
 
 use crate::editing::edit_project;
 use crate::opening::open_project;
-use dh_checks::{CheckedChange, CheckedCommand, check};
-use dh_decisions::decide;
-use dh_facts::look;
-use dh_paths::HostName;
-use dh_plans::Plan;
+use dh_commands::{CheckedChange, CheckedCommand, Plan, check, decide};
+use dh_edits::look;
 use dh_tables::Tables;
+use dh_texts::HostName;
 use dh_world::{Answer, Command, Refusal};
 use sqlite::Alter;
 use std::alloc::Global;

@@ -1,3 +1,5 @@
 pub mod Kinds
 pub mod Release
 pub mod Aliases
+pub mod Patterns
+pub mod Rules

@@ -5,7 +5,7 @@ ghost use Rattle.dh_versions.specs.Aliases.{Rank, rank_of, rank_cmp, is_above, h
 
 use crate::releases::release;
 use crate::version::{Kind, Version};
-use dh_paths::RefName;
+use dh_texts::RefName;
 use std::alloc::{AllocError, Global};
 
 type Numbers = (u64, u64, u64);

@@ -5,7 +5,7 @@ ghost use Rattle.semver.specs.Identifiers.{parts_of};
 ghost use Rattle.dh_versions.specs.Release.{IsSemVer, IsReleaseOf, Numbers, without_v, semver_parts, is_semver_name, release_of};
 
 use crate::version::Kind;
-use dh_paths::RefName;
+use dh_texts::RefName;
 use semver::{Error, Version};
 use std::alloc::{AllocError, Global};
 

@@ -2,7 +2,7 @@
 
 ghost use Rattle.std.specs.Prelude.{◌≡◌, IfOk};
 
-use dh_paths::{RefName, Slug};
+use dh_texts::{RefName, Slug};
 use std::alloc::{AllocError, Global};
 
 /// What a version comes from.

@@ -3,19 +3,19 @@ use Rattle.std.proofs.Common.{◌≡◌, ℕ, Bool, true, false, cond, List, [],
 use Rattle.std.specs.Prelude.{is_some, option_map, option_and_then}
 use Rattle.std.specs.Option.{option_map_or}
 use Rattle.std.specs.FinMap.{get}
-use Rattle.dh_seen.specs.declared.seen_project.SeenProject.{SeenProject}
-use Rattle.dh_seen.specs.SeenProject.{alias_to}
+use Rattle.dh_reads.specs.declared.seen_project.SeenProject.{SeenProject}
+use Rattle.dh_reads.specs.SeenProject.{alias_to}
 use Rattle.dh_world.specs.declared.caller.Caller.{Caller}
 use Rattle.dh_world.specs.World.{Text, Project}
 use Rattle.dh_world.specs.Visibility.{is_before, is_live}
 use Rattle.dh_world.specs.Seen.{seen_project}
-use Rattle.dh_classes.specs.Classes.{class_of, seen_by}
-use Rattle.dh_classes.proofs.ClassLemmas.{class_decides}
-use Rattle.dh_aliases.specs.Names.{names_of}
+use Rattle.dh_laws.specs.Classes.{class_of, seen_by}
+use Rattle.dh_laws.proofs.ClassLemmas.{class_decides}
+use Rattle.dh_laws.specs.Names.{names_of}
 use Rattle.dh_records.specs.declared.records.AliasName.{AliasName}
 use Rattle.dh_records.specs.declared.records.AliasName.TheVariants.{Latest, Stable, Default}
 use Rattle.dh_records.specs.Lists.{Lists, world_of}
-use Rattle.dh_derived.specs.Rightness.{class_in, due_at, due_in, has_class, kept_at, named}
+use Rattle.dh_stored_names.specs.Rightness.{class_in, due_at, due_in, has_class, kept_at, named}
 use Rattle.dh_view.specs.Remembered.{ShowsClass, project_in}
 use Rattle.dh_view.specs.Right.{IsRightIn}
 use Rattle.dh_view.specs.Stored.{stands_for}

@@ -14,8 +14,8 @@ use Rattle.dh_redirects.specs.declared.redirect.Asked.{Asked}
 use Rattle.dh_redirects.specs.declared.redirect.Location.{Location}
 use Rattle.dh_redirects.specs.FirstResult.{first_result, result_in}
 use Rattle.dh_redirects.specs.Locations.{redirect_result}
-use Rattle.dh_segments.specs.Segments.{first_segment, is_tried, segment_of}
-use Rattle.dh_segments.proofs.SegmentLemmas.{others_lead_nowhere}
+use Rattle.dh_redirects.specs.Segments.{first_segment, is_tried, segment_of}
+use Rattle.dh_redirects.proofs.SegmentLemmas.{others_lead_nowhere}
 use Rattle.dh_world.specs.World.{Text}
 use Rattle.dh_world.specs.declared.caller.Caller.{Caller}
 use Rattle.dh_world.specs.Seen.{seen_project, without_default}
@@ -24,7 +24,7 @@ use Rattle.dh_records.specs.Lists.{Lists, is_redirect_of, is_route_in, placed, p
 use Rattle.dh_records.specs.declared.records.ProjectRow.{ProjectRow}
 use Rattle.dh_records.specs.declared.records.RedirectRow.{RedirectRow}
 use Rattle.dh_records.specs.declared.records.RouteRow.{RouteRow}
-use Rattle.dh_derived.specs.Rightness.{route_of, routes_due}
+use Rattle.dh_stored_names.specs.Rightness.{route_of, routes_due}
 use Rattle.dh_tables.specs.Listing.{is_redirect_at}
 use Rattle.dh_view.specs.Right.{IsRightIn}
 use Rattle.dh_view.specs.Stored.{Led, best_at, best_of, better, is_asked, is_before_best, led_among, led_at, led_or}

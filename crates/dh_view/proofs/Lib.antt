@@ -6,3 +6,5 @@ pub mod Leading
 pub mod OrderedRows
 pub mod RightLemmas
 pub mod SeenPages
+pub mod ListLemmas
+pub mod LookLemmas

@@ -9,7 +9,7 @@ use Rattle.dh_records.specs.declared.records.VersionRow.{VersionRow}
 use Rattle.dh_records.specs.declared.records.GrantRow.{GrantRow}
 use Rattle.dh_world.specs.World.{Text}
 use Rattle.dh_world.specs.Visibility.{may_see}
-use Rattle.dh_classes.specs.Classes.{class_holds}
+use Rattle.dh_laws.specs.Classes.{class_holds}
 use Rattle.dh_records.specs.Lists.{Lists, project_of, is_held, is_held_by}
 use Rattle.dh_view.specs.View.{opens}
 use Rattle.dh_records.proofs.SeenLemmas.{holds_is}

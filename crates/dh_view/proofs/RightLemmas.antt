@@ -14,7 +14,7 @@ use Rattle.dh_records.specs.declared.records.ProjectRow.{ProjectRow}
 use Rattle.dh_records.specs.declared.records.RedirectRow.{RedirectRow}
 use Rattle.dh_records.proofs.ConstraintLemmas.{none_of_new, of_project}
 use Rattle.dh_records.proofs.KeyLemmas.{page_place}
-use Rattle.dh_derived.specs.Rightness.{AreRightAt}
+use Rattle.dh_stored_names.specs.Rightness.{AreRightAt}
 use Rattle.dh_view.specs.Right.{IsRightIn}
 use Rattle.dh_view.proofs.OrderedRows.{rising, pages_rise}
 

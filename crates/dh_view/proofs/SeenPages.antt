@@ -7,9 +7,9 @@ use Rattle.std.specs.Cmp.{IsTotalOrder}
 use Rattle.std.specs.FinMap.{FinMap, IsAntisymmetric, is_sorted, entries, entries_sorted, from_sorted, retain_keys, get-entries, get-from_sorted, get-retain_keys, entries-from_sorted, same_map}
 use Rattle.std.specs.FinMap.Entries.{where_key, is_sorted-where_key, find-where_key}
 use Rattle.std.proofs.lemmas.Slice.Eq.{bytes_eq-Decides}
-use Rattle.dh_seen.specs.declared.found.Page.{Page}
-use Rattle.dh_seen.specs.declared.seen_project.SeenProject.{SeenProject}
-use Rattle.dh_seen.specs.declared.seen_project.StoredPage.{StoredPage}
+use Rattle.dh_reads.specs.declared.found.Page.{Page}
+use Rattle.dh_reads.specs.declared.seen_project.SeenProject.{SeenProject}
+use Rattle.dh_reads.specs.declared.seen_project.StoredPage.{StoredPage}
 use Rattle.dh_world.specs.declared.caller.Caller.{Caller}
 use Rattle.dh_world.specs.World.{Text, PageKey, page_cmp, Project}
 use Rattle.dh_world.specs.Visibility.{is_visible}

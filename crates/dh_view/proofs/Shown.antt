@@ -13,9 +13,9 @@ use Rattle.std.proofs.lemmas.Map.Lookups.{exact_bytes}
 use Rattle.std.proofs.lemmas.Slice.Eq.{bytes_eq-Decides}
 use Rattle.dh_versions.specs.declared.version.Version.{Version}
 use Rattle.dh_versions.specs.Aliases.{latest_of, stable_of}
-use Rattle.dh_seen.specs.declared.found.Named.{Named}
-use Rattle.dh_seen.specs.declared.seen_project.SeenProject.{SeenProject}
-use Rattle.dh_seen.specs.SeenProject.{resolved, alias_of, page_at}
+use Rattle.dh_reads.specs.declared.found.Named.{Named}
+use Rattle.dh_reads.specs.declared.seen_project.SeenProject.{SeenProject}
+use Rattle.dh_reads.specs.SeenProject.{resolved, alias_of, page_at}
 use Rattle.dh_records.specs.declared.records.ProjectRow.{ProjectRow}
 use Rattle.dh_records.specs.declared.records.VersionRow.{VersionRow}
 use Rattle.dh_records.specs.declared.records.DefaultRow.{DefaultRow}
@@ -25,8 +25,8 @@ use Rattle.dh_world.specs.World.{Text, text_cmp, Project}
 use Rattle.dh_world.specs.Visibility.{live_pass, holds, is_visible, may_see}
 use Rattle.dh_records.specs.Lists.{Lists, project_of, world_of, is_project, is_version, is_version_of, is_page, is_lang_of, is_pick_of, is_redirect_of}
 use Rattle.dh_world.specs.Seen.{seen_project, without_default, default_of, visible_versions}
-use Rattle.dh_classes.specs.Classes as classes
-use Rattle.dh_classes.specs.Classes.{class_holds, class_of, versions_for}
+use Rattle.dh_laws.specs.Classes as classes
+use Rattle.dh_laws.specs.Classes.{class_holds, class_of, versions_for}
 use Rattle.dh_records.specs.Constraints as constraint
 use Rattle.dh_records.specs.Constraints.{RiseBySlug, languages_of}
 use Rattle.dh_view.specs.View.{ShowsClass, is_project_there, host_in, languages_in, opens, project_in, is_slug_seen, shown_under, slug_if_seen, version_in, versions_in}

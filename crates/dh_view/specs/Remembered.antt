@@ -5,11 +5,11 @@ use Rattle.std.specs.FinMap.{get}
 use Rattle.sqlite_trees.specs.declared.store.Store.{Ghosts}
 use Rattle.sqlite.specs.Held.{Held}
 use Rattle.dh_records.specs.Lists.{Lists, world_of}
-use Rattle.dh_schema.specs.Calling.{HasRecords}
+use Rattle.dh_records.specs.Calling.{HasRecords}
 use Rattle.dh_world.specs.declared.caller.Caller.{Caller}
 use Rattle.dh_world.specs.World.{Text, Project}
 use Rattle.dh_world.specs.Visibility.{is_visible}
-use Rattle.dh_classes.specs.Classes.{class_of}
+use Rattle.dh_laws.specs.Classes.{class_of}
 
 -- the project under a host
 abbrev pub project_in : Lists → Option Text → Option Project

@@ -8,10 +8,10 @@ use Rattle.sqlite.specs.Held.{Held}
 use Rattle.dh_records.specs.Constraints.{has_project, languages_of}
 use Rattle.dh_records.specs.Lists.{Lists, is_redirect_of}
 use Rattle.dh_records.specs.declared.records.PageRow.{PageRow}
-use Rattle.dh_schema.specs.Calling.{HasRecords}
-use Rattle.dh_seen.specs.declared.found.Page.{Page}
+use Rattle.dh_records.specs.Calling.{HasRecords}
+use Rattle.dh_reads.specs.declared.found.Page.{Page}
 use Rattle.dh_world.specs.World.{PageKey, Text, page_cmp}
-use Rattle.dh_derived.specs.Rightness.{AreRightAt}
+use Rattle.dh_stored_names.specs.Rightness.{AreRightAt}
 
 -- the pages of a host by version, language and path, as their records stand
 abbrev pub pages_of : Lists → Text → List (PageKey × Page)

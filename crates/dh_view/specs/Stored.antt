@@ -1,12 +1,12 @@
 -- What the stored rows of a host tell: what names stand for, where its redirects lead, and the sizes of its pages.
 use Rattle.std.specs.Prelude.{ℕ, Bool, true, not, ◌&&◌, ◌||◌, ◌==◌, nat_lt, if◌then◌else◌, List, [], ◌∷◌, filter, find, Option, Some, None, option_map, option_and_then}
 use Rattle.std.specs.Option.{option_or}
-use Rattle.dh_seen.specs.declared.seen_project.SeenProject.{SeenProject}
-use Rattle.dh_seen.specs.declared.seen_project.StoredPage.{StoredPage}
+use Rattle.dh_reads.specs.declared.seen_project.SeenProject.{SeenProject}
+use Rattle.dh_reads.specs.declared.seen_project.StoredPage.{StoredPage}
 use Rattle.dh_redirects.specs.declared.redirect.Asked.{Asked}
 use Rattle.dh_redirects.specs.declared.redirect.Location.{Location}
 use Rattle.dh_redirects.specs.FirstResult.{result_in}
-use Rattle.dh_segments.specs.Segments.{first_segment}
+use Rattle.dh_redirects.specs.Segments.{first_segment}
 use Rattle.dh_tables.specs.Listing.{is_redirect_at}
 use Rattle.dh_tables.specs.Sizes.{page_size}
 use Rattle.dh_tables.specs.declared.tables.page_sizes.PageSize.{PageSize}

@@ -10,9 +10,9 @@ mod pages;
 mod redirects;
 mod versions;
 
-use dh_paths::{HostName, Lang, Slug, Token};
-use dh_seen::Items;
+use dh_reads::Items;
 use dh_tables::Tables;
+use dh_texts::{HostName, Lang, Slug, Token};
 use dh_world::Caller;
 pub use looking::doubt_is_of_the_store;
 use sqlite::Alter;

@@ -11,8 +11,8 @@ use Rattle.std.proofs.lemmas.Slice.Eq.{bytes_eq-Decides}
 use Rattle.dh_texts.specs.SlugOfName.{slug_text}
 use Rattle.dh_versions.specs.Kinds.{same_kind}
 use Rattle.dh_versions.specs.declared.version.Version.{Version}
-use Rattle.dh_rules.specs.Rules.{after_rules}
-use Rattle.dh_rules.specs.declared.rule.Fresh.{Fresh}
+use Rattle.dh_versions.specs.Rules.{after_rules}
+use Rattle.dh_versions.specs.declared.rule.Fresh.{Fresh}
 use Rattle.dh_world.specs.declared.answer.Answer.{Answer}
 use Rattle.dh_world.specs.declared.answer.Answer.TheVariants.{Done}
 use Rattle.dh_world.specs.declared.command.Command.{Command}

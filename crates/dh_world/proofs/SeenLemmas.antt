@@ -5,9 +5,9 @@ use Rattle.std.specs.List.{find}
 use Rattle.std.specs.Str.{bytes_eq}
 use Rattle.std.specs.FinMap.{get, entries, get-entries, get-retain_keys}
 use Rattle.std.specs.FinMap as finite
-use Rattle.dh_seen.specs.declared.found.Page.{Page}
-use Rattle.dh_seen.specs.declared.seen_project.StoredPage.{StoredPage}
-use Rattle.dh_seen.specs.SeenProject.{stands_at, page_at}
+use Rattle.dh_reads.specs.declared.found.Page.{Page}
+use Rattle.dh_reads.specs.declared.seen_project.StoredPage.{StoredPage}
+use Rattle.dh_reads.specs.SeenProject.{stands_at, page_at}
 use Rattle.dh_world.specs.declared.caller.Caller.{Caller}
 use Rattle.dh_world.specs.World.{Text, PageKey, page_cmp, Project}
 use Rattle.dh_world.specs.Visibility.{is_visible}

@@ -8,8 +8,8 @@ use Rattle.std.specs.FinMap.{FinMap, IsAntisymmetric, empty, get, retain_keys, g
 use Rattle.std.proofs.lemmas.Map.Lookups.{exact_bytes}
 use Rattle.std.proofs.lemmas.Slice.Eq.{bytes_eq-Decides}
 use Rattle.dh_versions.specs.declared.version.Version.{Version}
-use Rattle.dh_seen.specs.declared.seen_project.SeenProject.{SeenProject}
-use Rattle.dh_seen.specs.SeenProject.{resolved}
+use Rattle.dh_reads.specs.declared.seen_project.SeenProject.{SeenProject}
+use Rattle.dh_reads.specs.SeenProject.{resolved}
 use Rattle.dh_world.specs.declared.caller.Caller.{Caller}
 use Rattle.dh_world.specs.World.{Text, text_cmp, Project, World}
 use Rattle.dh_world.specs.Visibility.{is_before, is_live, live_pass, holds, may_see, is_visible}

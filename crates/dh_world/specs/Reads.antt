@@ -1,7 +1,7 @@
 -- The host that a read names, and its caller.
 use Rattle.std.specs.Prelude.{ℕ, Bool, true, false, if◌then◌else◌, Option, Some, None, Result, Err, option_and_then}
 use Rattle.dh_texts.specs.Texts.{is_host_name, is_token}
-use Rattle.dh_wire.specs.declared.reply.Reply.{Reply}
+use Rattle.dh_reads.specs.declared.reply.Reply.{Reply}
 use Rattle.dh_ports.specs.declared.fault.Fault.{Fault}
 use Rattle.dh_ports.specs.declared.fault.Fault.TheVariants.{Store}
 use Rattle.dh_world.specs.declared.caller.Caller.{Caller}

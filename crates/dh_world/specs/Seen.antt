@@ -5,10 +5,10 @@ use Rattle.std.specs.FinMap.{FinMap, empty, get, insert, retain_keys, entries, k
 use Rattle.dh_versions.specs.Aliases.{latest_of, stable_of}
 use Rattle.dh_versions.specs.declared.version.Version.{Version}
 use Rattle.dh_redirects.specs.declared.redirect.Redirect.{Redirect}
-use Rattle.dh_seen.specs.declared.found.Page.{Page}
-use Rattle.dh_seen.specs.declared.seen_project.SeenProject.{SeenProject}
-use Rattle.dh_seen.specs.declared.seen_project.StoredPage.{StoredPage}
-use Rattle.dh_seen.specs.SeenProject.{resolved}
+use Rattle.dh_reads.specs.declared.found.Page.{Page}
+use Rattle.dh_reads.specs.declared.seen_project.SeenProject.{SeenProject}
+use Rattle.dh_reads.specs.declared.seen_project.StoredPage.{StoredPage}
+use Rattle.dh_reads.specs.SeenProject.{resolved}
 use Rattle.dh_world.specs.declared.caller.Caller.{Caller}
 use Rattle.dh_world.specs.World.{Text, text_cmp, PageKey, page_cmp, Project, World}
 use Rattle.dh_world.specs.Visibility.{is_visible}

@@ -3,8 +3,8 @@ use Rattle.std.specs.Prelude.{◌≡◌, ◌⊎◌, ℕ, true, Option, Some, Non
 use Rattle.std.specs.FinMap.{get, insert}
 use Rattle.std.specs.Str.{bytes_eq}
 use Rattle.dh_texts.specs.SlugOfName.{slug_text}
-use Rattle.dh_rules.specs.Patterns.{IsCustom}
-use Rattle.dh_rules.specs.Rules.{IsCustomAt}
+use Rattle.dh_versions.specs.Patterns.{IsCustom}
+use Rattle.dh_versions.specs.Rules.{IsCustomAt}
 use Rattle.dh_versions.specs.declared.version.Kind.{Kind}
 use Rattle.dh_world.specs.declared.answer.Answer.{Answer}
 use Rattle.dh_world.specs.World.{Text, Project, World}

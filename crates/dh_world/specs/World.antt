@@ -7,9 +7,9 @@ use Rattle.std.specs.Cmp.Lexicographic.{slice_cmp}
 use Rattle.std.specs.FinMap.{FinMap}
 use Rattle.std.specs.FinSet.{FinSet}
 use Rattle.dh_versions.specs.declared.version.Version.{Version}
-use Rattle.dh_rules.specs.declared.rule.Rule.{Rule}
+use Rattle.dh_versions.specs.declared.rule.Rule.{Rule}
 use Rattle.dh_redirects.specs.declared.redirect.Redirect.{Redirect}
-use Rattle.dh_seen.specs.declared.found.Page.{Page}
+use Rattle.dh_reads.specs.declared.found.Page.{Page}
 use Rattle.dh_world.specs.declared.answer.Answer.{Answer}
 use Rattle.dh_world.specs.declared.operation.Operation.{Operation}
 use Rattle.dh_world.specs.declared.operation.Operation.TheVariants.{Push, Upload}

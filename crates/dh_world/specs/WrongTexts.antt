@@ -5,8 +5,8 @@ use Rattle.std.specs.Option.{option_map_or}
 use Rattle.std.specs.Str.{bytes_eq}
 use Rattle.dh_texts.specs.Texts.{is_within, first_byte, last_byte, is_host_name, is_lang, is_ref_name, is_slug, is_page_path, is_token}
 use Rattle.dh_texts.specs.SlugOfName.{slug_from}
-use Rattle.dh_rules.specs.Rules.{is_allowed}
-use Rattle.dh_rules.specs.declared.rule.Rule.{Rule}
+use Rattle.dh_versions.specs.Rules.{is_allowed}
+use Rattle.dh_versions.specs.declared.rule.Rule.{Rule}
 use Rattle.dh_redirects.specs.Redirects.{first_fault, fault_number}
 use Rattle.dh_redirects.specs.declared.redirect.Redirect.{Redirect}
 use Rattle.dh_world.specs.World.{Text}

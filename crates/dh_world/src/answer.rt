@@ -6,7 +6,7 @@ ghost use Rattle.serde_json.specs.View.{view};
 ghost use Rattle.serde_json.specs.Find.{get, as_bool};
 ghost use Rattle.dh_world.specs.Answers as spec;
 
-use dh_paths::{Slug, TextFault};
+use dh_texts::{Slug, TextFault};
 use serde_json::{Value, json};
 use std::alloc::{AllocError, Global};
 

@@ -1,6 +1,6 @@
 //! Who reads, and when.
 
-use dh_paths::Token;
+use dh_texts::Token;
 
 /// Who reads: a caller with a pass, or without one, at a moment. Whether the project has the pass, and whether
 /// the pass is live at that moment, is looked up in the records.

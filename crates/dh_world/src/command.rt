@@ -1,10 +1,9 @@
 //! Administrative commands.
 use crate::pages::Pages;
 use crate::redirects::Redirects;
-use dh_paths::Text;
 use dh_redirects::Redirect;
-use dh_rules::Rule;
-use dh_versions::Kind;
+use dh_texts::Text;
+use dh_versions::{Kind, Rule};
 
 /// An administrative command. Its texts are unchecked: applying the command checks each against its type.
 #[derive(Drop)]

@@ -1,4 +1,4 @@
-//! What a documentation host means: its world, what a caller sees of it, and the one step that each command makes.
+//! What the host means: the world, which versions a caller may see, the step of each command, the limits.
 #![tactic(auto)]
 
 pub mod answer;

@@ -1,8 +1,8 @@
 //! The limits of a project and of what it takes in.
 //!
 //! Other limits stand beside the code that keeps them: of texts in `lengths.rt` of `dh_texts`, of a redirect in `texts.rt` of
-//! `dh_redirects`, of a pattern in `rule.rt` of `dh_rules`, of reads in `intake.rt` of `dh_ports`, of a head and a body in
-//! `head_end.rt` and `length.rt` of `dh_requests`, of kept replies in `replies.rt` of `dh_replies`, of a script in `script.rt` of
+//! `dh_redirects`, of a pattern in `rule.rt` of `dh_versions`, of reads in `intake.rt` of `dh_ports`, of a head and a body in
+//! `head_end.rt` and `length.rt` of `dh_requests`, of kept replies in `replies.rt` of `dh_reply_cache`, of a script in `script.rt` of
 //! `dh_script`, of a list in CSV in `lists.rt` of `docs_host`.
 
 /// The most languages of a project.

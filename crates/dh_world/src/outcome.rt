@@ -2,7 +2,7 @@
 use crate::answer::Answer;
 use crate::refusal::Refusal;
 use dh_ports::Fault;
-use dh_wire::Reply;
+use dh_reads::Reply;
 
 /// The outcome of a call of the desk.
 #[derive(Drop)]

@@ -1,7 +1,7 @@
 //! The pages of an upload.
 
-use dh_paths::{Bytes, Text};
-use dh_seen::Items;
+use dh_reads::Items;
+use dh_texts::{Bytes, Text};
 
 /// A page of an upload.
 #[derive(Drop)]

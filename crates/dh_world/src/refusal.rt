@@ -4,8 +4,8 @@ ghost use Rattle.dh_world.specs.Refusals.{refusal_number, refusal_name};
 ghost use Rattle.dh_world.specs.CheckResults.{refusal_of, refusal_from};
 ghost use Rattle.dh_world.specs.declared.refusal.Refusal.TheVariants.{OutOfMemory};
 
-use dh_paths::TextFault;
 use dh_ports::Fault;
+use dh_texts::TextFault;
 use std::alloc::AllocError;
 
 /// Why a command was refused.

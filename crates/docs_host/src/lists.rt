@@ -10,10 +10,10 @@ ghost use Rattle.dh_telling.specs.Orders.{OrdersImport, bad_record};
 
 use dh_lines::{DeskOrder, Order};
 use dh_listings::shown;
-use dh_lists::{ListFault, RecordFault, read_list};
-use dh_paths::Text;
 use dh_ports::{Intake, Port, Sink, Source, Stop};
+use dh_redirect_lists::{ListFault, RecordFault, read_list};
 use dh_telling::{Failure, ListFileFault, Status, Streams, put, say};
+use dh_texts::Text;
 use dh_world::{Command, CommandChange, Redirects};
 use std::alloc::{AllocError, Global};
 use std::fs::File;

@@ -1,4 +1,4 @@
-//! A host of versioned documentation.
+//! The program: its words, over a file, memory or a running server; how it ends.
 #![tactic(auto)]
 
 mod lists;

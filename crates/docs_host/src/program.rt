@@ -17,9 +17,8 @@ use crate::usage::{print_help, print_mistake, print_version};
 use dh_client::{run_by_server, run_import_by_server};
 use dh_files::{FileDesk, FileFault, close_desk, init_file, migrate_file, open_desk};
 use dh_lines::{DeskOrder, FileOrder, Line, LineFault, Order, ProgramOrder, line_of};
-use dh_lists::ListFault;
-use dh_paths::Text;
 use dh_ports::{Sink, Source};
+use dh_redirect_lists::ListFault;
 use dh_running::{
     Places, Served, bind_places, do_order, open_within, print_waiting, run_lines, serve_rest,
 };
@@ -27,6 +26,7 @@ use dh_sample::{answer_sample, empty_desk};
 use dh_script::{Reason, is_bad_target};
 use dh_sockets::Sockets;
 use dh_telling::{Failure, Status, Streams, print_failure, print_reason, print_usage, say};
+use dh_texts::Text;
 use sqlite::Start;
 use std::alloc::{AllocError, Global};
 

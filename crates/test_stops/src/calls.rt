@@ -2,9 +2,9 @@
 
 use dh_desk::{Call, Desk};
 use dh_lines::{DeskOrder, Order, line_of};
-use dh_paths::{Target, Text};
+use dh_reads::Read;
 use dh_script::outcome_text;
-use dh_wire::Read;
+use dh_texts::{Target, Text};
 use sqlite::Alter;
 use std::alloc::{AllocError, Global};
 

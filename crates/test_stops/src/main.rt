@@ -1,5 +1,4 @@
-//! A test of its own: a script over two files in memory, of which lines are stopped at each call of each file, or
-//! done as one list of calls.
+//! A test program: lines stopped at each call of the store, and lists of calls.
 #![tactic(auto)]
 
 mod calls;

@@ -11,9 +11,9 @@ use super::Desk;
 use crate::lists::listing_of;
 use crate::reads::undo;
 use dh_listings::ListWord;
-use dh_paths::Text;
 use dh_ports::{Fault, Found};
 use dh_tables::Tables;
+use dh_texts::Text;
 use sqlite::Alter;
 use std::alloc::Global;
 

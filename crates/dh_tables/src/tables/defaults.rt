@@ -4,15 +4,15 @@ ghost use Rattle.std.specs.Prelude.{◌≡◌, pos, false, IfOk};
 ghost use Rattle.std.specs.List.{AllByRecursion, IsDistinct};
 ghost use Rattle.std.specs.Str.{bytes_eq};
 ghost use Rattle.dh_rows.specs.Calls.{IsHonest};
-ghost use Rattle.dh_schema.specs.Calling.{HasRecords, IsWithin, LacksKey, ChangesLists, ChangesListsInside};
+ghost use Rattle.dh_records.specs.Calling.{HasRecords, IsWithin, LacksKey, ChangesLists, ChangesListsInside};
 ghost use Rattle.dh_records.specs.Changes as change;
 ghost use Rattle.dh_records.specs.Codings as coding;
 ghost use Rattle.dh_records.specs.Lists as spec;
 
 use super::Tables;
-use dh_paths::{HostName, Slug};
 use dh_ports::Fault;
 use dh_records::DefaultRow;
+use dh_texts::{HostName, Slug};
 use sqlite::{Alter, params};
 use std::alloc::Global;
 

@@ -1,16 +1,16 @@
 //! The calls on the records that are derived from others: what names stand for to each class of callers, and routes.
 
 ghost use Rattle.std.specs.Prelude.{filter, find};
-ghost use Rattle.dh_schema.specs.Calling.{HasRecords, IsWithin, ReadsValue, ReadsAll, ChangesLists, ChangesListsInside};
+ghost use Rattle.dh_records.specs.Calling.{HasRecords, IsWithin, ReadsValue, ReadsAll, ChangesLists, ChangesListsInside};
 ghost use Rattle.dh_records.specs.Changes as change;
 ghost use Rattle.dh_records.specs.Codings as coding;
 ghost use Rattle.dh_records.specs.Constraints.{InOrder};
 ghost use Rattle.dh_records.specs.Lists as spec;
 
 use super::{Tables, as_place};
-use dh_paths::HostName;
 use dh_ports::{Fault, Found};
 use dh_records::{AliasName, AliasRow, Route, RouteRow, alias_number, show_number};
+use dh_texts::HostName;
 use sqlite::{Alter, params};
 use std::alloc::Global;
 

@@ -1,15 +1,15 @@
 //! The calls on grants: which versions a pass holds.
 
 ghost use Rattle.std.specs.Prelude.{filter, find, is_some};
-ghost use Rattle.dh_schema.specs.Calling.{LacksKey, ReadsValue, ReadsAll, ChangesLists};
+ghost use Rattle.dh_records.specs.Calling.{LacksKey, ReadsValue, ReadsAll, ChangesLists};
 ghost use Rattle.dh_records.specs.Changes as change;
 ghost use Rattle.dh_records.specs.Codings as coding;
 ghost use Rattle.dh_records.specs.Lists as spec;
 
 use super::Tables;
-use dh_paths::{HostName, Slug, Token};
 use dh_ports::Fault;
 use dh_records::GrantRow;
+use dh_texts::{HostName, Slug, Token};
 use sqlite::{Alter, params};
 use std::alloc::Global;
 

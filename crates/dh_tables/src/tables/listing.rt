@@ -1,16 +1,16 @@
 //! How any list of a project is read, and how some are set as a whole.
 
 ghost use Rattle.std.specs.Prelude.{◌≡◌, ◌↔◌, ℕ, Bool, List, map, filter, slice_get, IfOk, IsSomeAnd, IsTrue};
-ghost use Rattle.dh_schema.specs.Calling.{HasRecords, IsWithin, ReadsAll, ChangesLists, ChangesListsInside};
+ghost use Rattle.dh_records.specs.Calling.{HasRecords, IsWithin, ReadsAll, ChangesLists, ChangesListsInside};
 ghost use Rattle.dh_records.specs.Constraints.{AreInOrder, InOrder};
 ghost use Rattle.dh_records.specs.Lists.{Lists};
 ghost use Rattle.dh_tables.specs.Listing as spec;
 ghost use Rattle.dh_tables.specs.Listing.{Listing};
 
 use super::{Tables, as_place};
-use dh_paths::HostName;
 use dh_ports::Fault;
 use dh_records::Record;
+use dh_texts::HostName;
 use sqlite::Alter;
 use std::alloc::{AllocError, Global};
 

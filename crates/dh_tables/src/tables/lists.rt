@@ -3,21 +3,21 @@
 
 ghost use Rattle.std.specs.Prelude.{find, refl};
 ghost use Rattle.std.specs.Str.{bytes_eq};
-ghost use Rattle.dh_schema.specs.Calling.{IsWithin, ReadsValue, ChangesListsInside};
+ghost use Rattle.dh_records.specs.Calling.{IsWithin, ReadsValue, ChangesListsInside};
 ghost use Rattle.dh_records.specs.Changes as change;
 ghost use Rattle.dh_records.specs.Lists as spec;
 ghost use Rattle.dh_tables.specs.Listing.{is_redirect_at, redirect_list, rule_list};
 
 use super::listing::{Listed, Placed, set};
 use super::{Tables, as_place};
-use dh_paths::{HostName, Lang, Slug};
 use dh_ports::{Fault, Found};
 use dh_records::{
     DefaultRow, GrantRow, LangRow, PassRow, RedirectRow, RuleRow, action_number, is_tag,
     kind_number, show_number, show_status,
 };
 use dh_redirects::Redirect;
-use dh_rules::Rule;
+use dh_texts::{HostName, Lang, Slug};
+use dh_versions::Rule;
 use sqlite::{Alter, params};
 use std::alloc::Global;
 

@@ -3,19 +3,19 @@
 ghost use Rattle.std.specs.Prelude.{◌≡◌, option_map, Some, None, IfSome, filter, find, is_some, map};
 ghost use Rattle.dh_page_cache.specs.Keys.{key_texts};
 ghost use Rattle.dh_rows.specs.Calls.{IsHonest, seen_now};
-ghost use Rattle.dh_schema.specs.Calling.{ReadsValue, ReadsAll, ChangesLists};
+ghost use Rattle.dh_records.specs.Calling.{ReadsValue, ReadsAll, ChangesLists};
 ghost use Rattle.dh_records.specs.Changes as change;
 ghost use Rattle.dh_records.specs.Lists as spec;
-ghost use Rattle.dh_schema.specs.Tables.{lists_of};
+ghost use Rattle.dh_records.specs.Tables.{lists_of};
 ghost use Rattle.dh_tables.specs.Pages.{page_under};
 ghost use Rattle.dh_tables.specs.Sizes.{size_of_row};
 
 use super::{PageSize, Tables};
 use dh_page_cache::PageKey;
-use dh_paths::{HostName, Lang, Slug};
 use dh_ports::{Fault, Found};
+use dh_reads::Page;
 use dh_records::PageRow;
-use dh_seen::Page;
+use dh_texts::{HostName, Lang, Slug};
 use sqlite::{Alter, params};
 use std::alloc::Global;
 

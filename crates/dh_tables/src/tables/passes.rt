@@ -1,15 +1,15 @@
 //! The calls on passes.
 
 ghost use Rattle.std.specs.Prelude.{filter, find, is_some, length};
-ghost use Rattle.dh_schema.specs.Calling.{LacksKey, ReadsValue, ChangesLists};
+ghost use Rattle.dh_records.specs.Calling.{LacksKey, ReadsValue, ChangesLists};
 ghost use Rattle.dh_records.specs.Changes as change;
 ghost use Rattle.dh_records.specs.Codings as coding;
 ghost use Rattle.dh_records.specs.Lists as spec;
 
 use super::Tables;
-use dh_paths::{HostName, Token};
 use dh_ports::{Fault, Found};
 use dh_records::PassRow;
+use dh_texts::{HostName, Token};
 use sqlite::{Alter, params};
 use std::alloc::Global;
 

@@ -1,16 +1,16 @@
 //! The calls on projects and their languages.
 
 ghost use Rattle.std.specs.Prelude.{◌≡◌, false, find, is_some};
-ghost use Rattle.dh_schema.specs.Calling.{HasRecords, LacksKey, ReadsValue, ChangesLists};
+ghost use Rattle.dh_records.specs.Calling.{HasRecords, LacksKey, ReadsValue, ChangesLists};
 ghost use Rattle.dh_records.specs.Changes as change;
 ghost use Rattle.dh_records.specs.Codings as coding;
 ghost use Rattle.dh_records.specs.Lists as spec;
 ghost use Rattle.dh_records.specs.Constraints.{has_language};
 
 use super::Tables;
-use dh_paths::HostName;
 use dh_ports::{Fault, Found};
 use dh_records::{LangRow, ProjectRow};
+use dh_texts::HostName;
 use sqlite::{Alter, params};
 use std::alloc::Global;
 

@@ -2,16 +2,16 @@
 
 ghost use Rattle.std.specs.Prelude.{◌≡◌, option_map, find, IfSome, IsSome};
 ghost use Rattle.dh_world.specs.Answers.{IsAnswer, json_of};
-ghost use Rattle.dh_schema.specs.Calling.{LacksKey, LearnsFact, ReadsValue, ChangesLists};
+ghost use Rattle.dh_records.specs.Calling.{LacksKey, LearnsFact, ReadsValue, ChangesLists};
 ghost use Rattle.dh_records.specs.Changes as change;
 ghost use Rattle.dh_records.specs.Codings as coding;
 ghost use Rattle.dh_records.specs.Lists as spec;
 ghost use Rattle.dh_records.specs.Typed.{TellsAnswer};
 
 use super::Tables;
-use dh_paths::{HostName, Slug, Token};
 use dh_ports::{Fault, Found};
 use dh_records::{RetryRow, kept_answer, show_number};
+use dh_texts::{HostName, Slug, Token};
 use dh_world::{Answer, Operation};
 use sqlite::{Alter, params};
 use std::alloc::Global;

@@ -5,14 +5,13 @@ ghost use Rattle.sqlite_value.specs.Order.{Row};
 ghost use Rattle.sqlite.specs.Held.{state};
 ghost use Rattle.sqlite.specs.Values.{bound};
 ghost use Rattle.dh_records.specs.Lists.{Lists};
-ghost use Rattle.dh_schema.specs.Calling.{ReadsValue, ReadsAll, ChangesLists};
+ghost use Rattle.dh_records.specs.Calling.{ReadsValue, ReadsAll, ChangesLists};
 ghost use Rattle.dh_tables.specs.Meanings.{AsksFor, AltersWhereHonest, IsChange, IsChangeBesidePages, IsQuery};
 
 use super::Tables;
 use dh_ports::{Fault, Found};
-use dh_records::Record;
+use dh_records::{Record, all_records, first_record};
 use dh_rows::{change, select};
-use dh_schema::{all_records, first_record};
 use sqlite::Alter;
 use sqlite::types::ValueRef;
 use std::alloc::Global;

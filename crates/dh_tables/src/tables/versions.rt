@@ -1,15 +1,15 @@
 //! The calls on versions.
 
 ghost use Rattle.std.specs.Prelude.{◌≡◌, filter, find};
-ghost use Rattle.dh_schema.specs.Calling.{LearnsFact, ReadsValue, ChangesLists};
+ghost use Rattle.dh_records.specs.Calling.{LearnsFact, ReadsValue, ChangesLists};
 ghost use Rattle.dh_records.specs.Constraints.{RiseBySlug};
 ghost use Rattle.dh_records.specs.Changes as change;
 ghost use Rattle.dh_records.specs.Lists as spec;
 
 use super::Tables;
-use dh_paths::{HostName, Slug};
 use dh_ports::{Fault, Found};
 use dh_records::VersionRow;
+use dh_texts::{HostName, Slug};
 use sqlite::{Alter, params};
 use std::alloc::Global;
 

@@ -2,8 +2,8 @@
 
 ghost use Rattle.sqlite.specs.Held.{state};
 ghost use Rattle.dh_rows.specs.Calls.{AreOurs};
-ghost use Rattle.dh_schema.specs.Calling.{ReadsAll, ChangesLists};
-ghost use Rattle.dh_schema.specs.Tables.{HoldsTables};
+ghost use Rattle.dh_records.specs.Calling.{ReadsAll, ChangesLists};
+ghost use Rattle.dh_records.specs.Tables.{HoldsTables};
 ghost use Rattle.dh_tables.specs.Clearing.{without_aliases, without_routes};
 
 use super::Tables;

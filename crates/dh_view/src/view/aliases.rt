@@ -1,16 +1,16 @@
 //! What names stand for, to the caller's class.
 
 ghost use Rattle.std.specs.Prelude.{◌≡◌, IfOk};
-ghost use Rattle.dh_derived.specs.Rightness.{class_in, kept_at};
-ghost use Rattle.dh_seen.specs.SeenProject.{alias_to};
+ghost use Rattle.dh_stored_names.specs.Rightness.{class_in, kept_at};
+ghost use Rattle.dh_reads.specs.SeenProject.{alias_to};
 ghost use Rattle.dh_view.specs.View.{ReadsInTurn};
 
 use crate::view::HostView;
-use dh_paths::{Slug, Text, Token};
 use dh_ports::Found;
+use dh_reads::Named;
 use dh_records::AliasName;
-use dh_seen::Named;
 use dh_tables::Tables;
+use dh_texts::{Slug, Text, Token};
 use sqlite::Alter;
 use std::alloc::{AllocError, Global};
 

@@ -6,9 +6,9 @@ ghost use Rattle.std.proofs.Common.{◌∙◌, refl};
 ghost use Rattle.sqlite.specs.Held.{Held};
 ghost use Rattle.dh_rows.specs.Calls.{IsHonest};
 ghost use Rattle.dh_reply.specs.Lookup.{IsLook, AnswersAll, AnswersMaybe};
-ghost use Rattle.dh_seen.specs.SeenProject.{alias_of, alias_to};
+ghost use Rattle.dh_reads.specs.SeenProject.{alias_of, alias_to};
 ghost use Rattle.dh_redirects.specs.FirstResult.{first_result};
-ghost use Rattle.dh_schema.specs.Calling.{HasRecords, IsSettled};
+ghost use Rattle.dh_records.specs.Calling.{HasRecords, IsSettled};
 ghost use Rattle.dh_view.specs.Remembered.{IsSeen};
 ghost use Rattle.dh_view.specs.Stored.{size_of_page, stands_for};
 ghost use Rattle.dh_view.specs.View as view;
@@ -16,13 +16,13 @@ ghost use Rattle.dh_view.specs.View.{LooksUp, doubt_of, fails_on, honest_none, h
 
 use super::aliases::{as_alias, as_text, class_text};
 use super::{HostView, View};
-use dh_paths::{HostName, Lang, Slug, Text};
 use dh_ports::{Fault, Found};
+use dh_reads::{Items, Named, Page};
 use dh_records::{AliasName, LangRow, RedirectRow};
 use dh_redirects::{Asked, Location, Redirect};
 use dh_reply::Lookup;
-use dh_seen::{Items, Named, Page};
 use dh_tables::PageSize;
+use dh_texts::{HostName, Lang, Slug, Text};
 use dh_versions::Version;
 use sqlite::Alter;
 use std::alloc::{AllocError, Global};

@@ -6,9 +6,9 @@ ghost use Rattle.dh_tables.specs.Sizes.{size_of_row};
 ghost use Rattle.dh_view.specs.View.{LearnsInTurn};
 
 use crate::view::HostView;
-use dh_paths::{Lang, Slug};
 use dh_ports::Fault;
 use dh_tables::{PageSize, Tables};
+use dh_texts::{Lang, Slug};
 use sqlite::Alter;
 
 impl HostView<'_> {

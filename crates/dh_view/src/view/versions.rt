@@ -10,10 +10,10 @@ ghost use Rattle.dh_view.specs.View.{LearnsInTurn, ReadsInTurn, OpensAs, ShowsAs
 ghost use Rattle.dh_world.specs.Visibility as visibility;
 
 use crate::view::HostView;
-use dh_paths::Slug;
 use dh_ports::{Fault, Found};
 use dh_records::{GrantRow, VersionRow};
 use dh_tables::Tables;
+use dh_texts::Slug;
 use dh_versions::Version;
 use dh_world::may_see;
 use sqlite::Alter;

@@ -1,6 +1,6 @@
 use Rattle.std.proofs.Common.{◌∙◌, ap, refl}
 use Rattle.std.proofs.lemmas.Str.{is_utf8-from_IsUtf8}
-use Rattle.dh_paths.proofs.TargetLemmas.{not_utf8}
+use Rattle.dh_texts.proofs.TargetLemmas.{not_utf8}
 use Rattle.dh_listings.specs.Terminal.{lines_steer_nothing}
 use Rattle.dh_client.proofs.by_server.may_be_shown.Goals as goal
 

@@ -1,6 +1,6 @@
 use Rattle.std.proofs.Common.{rules}
 use Rattle.dh_rows.specs.Calls.{seen_now}
-use Rattle.dh_schema.specs.Tables.{lists_of}
+use Rattle.dh_records.specs.Tables.{lists_of}
 use Rattle.dh_view.proofs.ViewLemmas.{asks_none}
 use Rattle.dh_desk.proofs.Classing.{no_pass, shown_pass}
 use Rattle.dh_desk.proofs.classes.class_in.Goals as goal

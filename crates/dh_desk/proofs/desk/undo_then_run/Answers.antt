@@ -3,7 +3,7 @@ use Rattle.dh_desk.proofs.desk.undo_then_run.Goals as goal
 use Rattle.dh_records.specs.Lists.{Lists}
 use Rattle.dh_transactions.proofs.Crashing.{refused_after, step_after}
 use Rattle.dh_transactions.proofs.Ending.{over_aside, stays, steps_aside}
-use Rattle.dh_schema.specs.InTurn.{lasts_on}
+use Rattle.dh_records.specs.InTurn.{lasts_on}
 use Rattle.dh_tables.specs.Going.{last_records}
 use Rattle.dh_desk.specs.Desk.{AreConsistent}
 use Rattle.dh_transactions.specs.Steps.{TakesStep}

@@ -1,7 +1,7 @@
 use Rattle.std.proofs.Common.{inl, inr, refl}
 use Rattle.sqlite_trees.specs.View.{doubt}
 use Rattle.dh_rows.proofs.Blameless.{blameless}
-use Rattle.dh_schema.proofs.CallLemmas.{on_store}
+use Rattle.dh_records.proofs.CallLemmas.{on_store}
 use Rattle.dh_desk.proofs.laws.memory_answers.Goals as goal
 
 pub returns : goal.returns

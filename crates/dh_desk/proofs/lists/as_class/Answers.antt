@@ -1,6 +1,6 @@
 use Rattle.std.proofs.Common.{Ok}
 use Rattle.dh_rows.specs.Calls.{seen_now}
-use Rattle.dh_schema.specs.Tables.{lists_of}
+use Rattle.dh_records.specs.Tables.{lists_of}
 use Rattle.dh_view.proofs.ViewLemmas.{asks_none, asks_then, obtains_handed}
 use Rattle.dh_world.specs.declared.caller.Caller.{Caller}
 use Rattle.dh_desk.proofs.Listing.{class_nowhere, class_under}

@@ -2,7 +2,7 @@ use Rattle.std.proofs.Common.{rules, ◌∙◌, sym, ap, subst}
 use Rattle.std.specs.Prelude.{option_map}
 use Rattle.dh_listings.specs.ListingTexts.{seen_text}
 use Rattle.dh_records.specs.Lists.{world_of}
-use Rattle.dh_schema.proofs.CallLemmas.{on_store}
+use Rattle.dh_records.proofs.CallLemmas.{on_store}
 use Rattle.dh_view.specs.View.{ShowsClass, fails_on, looks_on}
 use Rattle.dh_view.proofs.ViewLemmas.{asks_handed, fails_from, looks_from, same_answer, still}
 use Rattle.dh_world.specs.Seen as sight

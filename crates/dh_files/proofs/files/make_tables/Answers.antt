@@ -1,5 +1,5 @@
 use Rattle.std.proofs.Common.{refl}
-use Rattle.dh_schema.specs.Making.{IsMade}
+use Rattle.dh_records.specs.Making.{IsMade}
 use Rattle.dh_files.proofs.SettleLemmas.{not_old, settled_after}
 use Rattle.dh_files.proofs.files.make_tables.Goals as goal
 

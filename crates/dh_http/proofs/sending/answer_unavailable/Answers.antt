@@ -1,5 +1,5 @@
 use Rattle.std.proofs.Common.{refl}
-use Rattle.dh_wire.specs.Statuses.{fault_reply_of}
+use Rattle.dh_reads.specs.Statuses.{fault_reply_of}
 use Rattle.dh_http.proofs.sending.answer_unavailable.Goals as goal
 
 pub returns-in-Ok-clause-writes : goal.returns-in-Ok-clause-writes

@@ -1,6 +1,6 @@
 use Rattle.std.proofs.Common.{◌∙◌, ap}
 use Rattle.clap.specs.Simple.{App, with_subcommand}
-use Rattle.dh_word_tables.proofs.AppLemmas.{one_more}
+use Rattle.dh_lines.proofs.AppLemmas.{one_more}
 use Rattle.dh_lines.specs.Forms.{app_of_form}
 use Rattle.dh_lines.proofs.app.with_forms.Goals as goal
 

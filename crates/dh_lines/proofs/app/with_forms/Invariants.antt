@@ -1,5 +1,5 @@
 use Rattle.std.proofs.Common.{◌≡◌, map, take}
-use Rattle.dh_word_tables.specs.Apps.{with_apps}
+use Rattle.dh_lines.specs.Apps.{with_apps}
 use Rattle.dh_lines.specs.Forms.{app_of_form}
 use Rattle.dh_lines.proofs.app.with_forms.Given as goal
 

@@ -1,4 +1,4 @@
-use Rattle.dh_word_tables.proofs.AppLemmas.{one_more}
+use Rattle.dh_lines.proofs.AppLemmas.{one_more}
 use Rattle.dh_lines.specs.Forms.{with_more}
 use Rattle.dh_lines.specs.declared.app.More.{More}
 use Rattle.dh_lines.proofs.app.with_options.Goals as goal

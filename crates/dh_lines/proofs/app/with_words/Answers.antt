@@ -1,8 +1,8 @@
 use Rattle.std.proofs.Common.{Bor}
 use Rattle.clap.specs.Walk.{Text}
 use Rattle.clap.specs.Simple.{App, with_rule}
-use Rattle.dh_word_tables.specs.Apps.{word_rule}
-use Rattle.dh_word_tables.proofs.AppLemmas.{one_more}
+use Rattle.dh_lines.specs.Apps.{word_rule}
+use Rattle.dh_lines.proofs.AppLemmas.{one_more}
 use Rattle.dh_lines.proofs.app.with_words.Goals as goal
 
 pub loop-id-preserved : goal.loop-id-preserved

@@ -1,5 +1,5 @@
 use Rattle.std.proofs.Common.{◌≡◌, map, take}
-use Rattle.dh_word_tables.specs.Apps.{with_words}
+use Rattle.dh_lines.specs.Apps.{with_words}
 use Rattle.dh_lines.proofs.app.with_words.Given as goal
 
 abbrev pub invariant-loop-id : goal.invariant-loop-id

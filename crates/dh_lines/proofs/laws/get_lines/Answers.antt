@@ -1,7 +1,7 @@
 use Rattle.std.proofs.Common.{codes, refl, ap, [], ◌∷◌, Option, Some, None, ℕ}
 use Rattle.std.specs.Prelude.{option_map}
 use Rattle.clap.specs.Faults.{defaults_fault}
-use Rattle.dh_word_tables.proofs.TokenLemmas.{chosen, written}
+use Rattle.dh_lines.proofs.TokenLemmas.{chosen, written}
 use Rattle.clap.specs.Walk.{Text}
 use Rattle.dh_lines.specs.declared.lines.Order.{Order}
 use Rattle.dh_lines.specs.declared.lines.Order.TheVariants.{Desk}

@@ -1,6 +1,6 @@
 use Rattle.std.proofs.Common.{codes, refl, [], ◌∷◌}
 use Rattle.clap.specs.Faults.{defaults_fault}
-use Rattle.dh_word_tables.proofs.TokenLemmas.{chosen}
+use Rattle.dh_lines.proofs.TokenLemmas.{chosen}
 use Rattle.dh_lines.proofs.FormLines.{form_line}
 use Rattle.dh_lines.proofs.laws.import_lines.Goals as goal
 

@@ -1,6 +1,6 @@
 use Rattle.std.proofs.Common.{codes, refl, [], ◌∷◌, Some, None}
 use Rattle.clap.specs.Faults.{defaults_fault}
-use Rattle.dh_word_tables.proofs.TokenLemmas.{chosen}
+use Rattle.dh_lines.proofs.TokenLemmas.{chosen}
 use Rattle.dh_lines.specs.Lines.{as_line}
 use Rattle.dh_lines.specs.declared.lines.Order.TheVariants.{File}
 use Rattle.dh_lines.specs.declared.lines.FileOrder.TheVariants.{Init, Migrate}

@@ -1,7 +1,7 @@
 use Rattle.std.proofs.Common.{codes, refl, [], ◌∷◌, Some}
 use Rattle.clap.specs.Faults.{defaults_fault}
 use Rattle.clap.specs.Walk.{Text}
-use Rattle.dh_word_tables.proofs.TokenLemmas.{chosen}
+use Rattle.dh_lines.proofs.TokenLemmas.{chosen}
 use Rattle.dh_listings.specs.declared.words.ListWord.TheVariants.{Projects, OfProject}
 use Rattle.dh_listings.specs.declared.words.ProjectList.{ProjectList}
 use Rattle.dh_listings.specs.declared.words.ProjectList.TheVariants.{Langs, Versions, Defaults, Rules, Redirects, Passes}

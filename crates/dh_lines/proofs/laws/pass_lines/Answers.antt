@@ -1,7 +1,7 @@
 use Rattle.std.proofs.Common.{codes, refl, ap, [], ◌∷◌, Option, Some, None, ℕ}
 use Rattle.std.specs.Prelude.{option_map}
 use Rattle.clap.specs.Faults.{defaults_fault}
-use Rattle.dh_word_tables.proofs.TokenLemmas.{chosen, written}
+use Rattle.dh_lines.proofs.TokenLemmas.{chosen, written}
 use Rattle.dh_world.specs.declared.command.CommandChange.TheVariants.{AddPass, DropPass}
 use Rattle.dh_lines.specs.Lines.{change_in}
 use Rattle.dh_lines.proofs.FormLines.{acting, form_line, read_line, word_line}

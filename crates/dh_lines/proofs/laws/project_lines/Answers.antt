@@ -1,8 +1,8 @@
 use Rattle.std.proofs.Common.{codes, refl, List, [], ◌∷◌, Some}
 use Rattle.clap.specs.Faults.{defaults_fault}
 use Rattle.clap.specs.Walk.{Text}
-use Rattle.dh_word_tables.specs.Words.{ArePlain}
-use Rattle.dh_word_tables.proofs.TokenLemmas.{Token, chosen, written}
+use Rattle.dh_lines.specs.Words.{ArePlain}
+use Rattle.dh_lines.proofs.TokenLemmas.{Token, chosen, written}
 use Rattle.dh_lines.specs.Lines.{OrdersLine, change_in}
 use Rattle.dh_lines.specs.declared.lines.Order.{Order}
 use Rattle.dh_lines.proofs.FormLines.{form_line, ReadsAs}

@@ -5,8 +5,8 @@ use Rattle.dh_redirects.specs.declared.redirect.RedirectKind.{RedirectKind}
 use Rattle.dh_redirects.specs.declared.redirect.RedirectKind.TheVariants.{Page, Exact, CleanToHtml}
 use Rattle.dh_redirects.specs.declared.redirect.RedirectKind.TheVariants.{HtmlToClean}
 use Rattle.dh_world.specs.declared.command.CommandChange.TheVariants.{DropRedirect}
-use Rattle.dh_word_tables.specs.Words.{is_plain_word}
-use Rattle.dh_word_tables.proofs.TokenLemmas.{written}
+use Rattle.dh_lines.specs.Words.{is_plain_word}
+use Rattle.dh_lines.proofs.TokenLemmas.{written}
 use Rattle.dh_redirects.specs.Redirects.{redirect_kind_of}
 use Rattle.dh_lines.specs.Lines.{OrdersRedirect, OrdersForced}
 use Rattle.dh_lines.specs.Lines.{change_in}

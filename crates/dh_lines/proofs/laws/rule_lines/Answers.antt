@@ -1,6 +1,6 @@
 use Rattle.std.proofs.Common.{codes, refl}
 use Rattle.clap.specs.Faults.{defaults_fault}
-use Rattle.dh_rules.specs.declared.rule.Action.TheVariants as action
+use Rattle.dh_versions.specs.declared.rule.Action.TheVariants as action
 use Rattle.dh_world.specs.declared.command.CommandChange.TheVariants.{DropRule}
 use Rattle.dh_lines.specs.Lines.{change_in}
 use Rattle.dh_lines.proofs.FormLines.{rule_line, place_line}

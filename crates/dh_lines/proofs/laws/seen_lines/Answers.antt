@@ -2,7 +2,7 @@ use Rattle.std.proofs.Common.{codes, refl, ap, [], ◌∷◌, Option, Some, None
 use Rattle.std.specs.Prelude.{option_map}
 use Rattle.clap.specs.Faults.{defaults_fault}
 use Rattle.clap.specs.Walk.{Text}
-use Rattle.dh_word_tables.proofs.TokenLemmas.{chosen, written}
+use Rattle.dh_lines.proofs.TokenLemmas.{chosen, written}
 use Rattle.dh_listings.specs.declared.words.ListWord.TheVariants.{Seen}
 use Rattle.dh_lines.specs.Lines.{listing}
 use Rattle.dh_lines.specs.declared.lines.Order.{Order}

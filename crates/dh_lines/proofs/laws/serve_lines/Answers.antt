@@ -3,7 +3,7 @@ use Rattle.std.proofs.Common.{Bool, true, false}
 use Rattle.std.specs.Prelude.{option_map, option_and_then}
 use Rattle.clap.specs.Faults.{defaults_fault}
 use Rattle.clap.specs.Walk.{Text}
-use Rattle.dh_word_tables.proofs.TokenLemmas.{Token, chosen, written}
+use Rattle.dh_lines.proofs.TokenLemmas.{Token, chosen, written}
 use Rattle.dh_lines.specs.Lines.{as_line}
 use Rattle.dh_lines.specs.declared.lines.Line.{Line}
 use Rattle.dh_lines.specs.declared.lines.Order.TheVariants.{Program}

@@ -3,8 +3,8 @@ use Rattle.std.proofs.Common.{false}
 use Rattle.clap.specs.Faults.{defaults_fault}
 use Rattle.clap.specs.Walk.{Text}
 use Rattle.dh_world.specs.declared.command.CommandChange.TheVariants.{Upload}
-use Rattle.dh_word_tables.proofs.TokenLemmas.{Token, chosen, written, text_of, Fits}
-use Rattle.dh_word_tables.proofs.TokenLemmas.{tokens_level, tokens_rows}
+use Rattle.dh_lines.proofs.TokenLemmas.{Token, chosen, written, text_of, Fits}
+use Rattle.dh_lines.proofs.TokenLemmas.{tokens_level, tokens_rows}
 use Rattle.dh_lines.specs.App.{upload_app}
 use Rattle.dh_lines.specs.Lines.{OrdersLine, as_line, ordering, one_page, named_line, change_in}
 use Rattle.dh_lines.specs.declared.lines.Line.{Line}

@@ -3,8 +3,8 @@ use Rattle.sqlite_schema.specs.declared.schema.Schema.{Schema}
 use Rattle.sqlite.specs.Does.{lacks_sequence}
 use Rattle.sqlite.specs.Held.{state}
 use Rattle.dh_rows.specs.Shapes.{table_of}
-use Rattle.dh_migrating.specs.Converting.{SparesOthers}
-use Rattle.dh_migrating.proofs.StepLemmas.{carried_one}
+use Rattle.dh_opening.specs.Converting.{SparesOthers}
+use Rattle.dh_opening.proofs.StepLemmas.{carried_one}
 use Rattle.dh_opening.specs.Opening.{CanDrop}
 use Rattle.dh_opening.proofs.FillLemmas.{carried_nothing, drop_asks}
 use Rattle.dh_opening.proofs.filling.drop_alone.Goals as goal

@@ -1,6 +1,6 @@
 use Rattle.std.proofs.Common.{Ok, true, refl, subst, sym}
 use Rattle.sqlite.specs.Held.{state}
-use Rattle.dh_migrating.specs.Converting.{CarriesTo}
+use Rattle.dh_opening.specs.Converting.{CarriesTo}
 use Rattle.dh_opening.specs.Filling.{IsFilled}
 use Rattle.dh_opening.proofs.FillLemmas.{carried_nothing}
 use Rattle.dh_opening.proofs.filling.fill.Goals as goal

@@ -1,7 +1,7 @@
 use Rattle.std.proofs.Common.{rules, subst}
 use Rattle.dh_ports.specs.declared.fault.Fault.TheVariants.{Store}
 use Rattle.dh_rows.proofs.Indexes.{placed}
-use Rattle.dh_schema.specs.Making.{CanAdd}
+use Rattle.dh_records.specs.Making.{CanAdd}
 use Rattle.dh_opening.proofs.FillLemmas.{alias_drops, made_anew, not_made, route_drops}
 use Rattle.dh_opening.proofs.filling.make_anew.Goals as goal
 

@@ -1,4 +1,4 @@
-use Rattle.dh_migrating.proofs.StepLemmas.{carried_as, carried_on, true_then}
+use Rattle.dh_opening.proofs.StepLemmas.{carried_as, carried_on, true_then}
 use Rattle.dh_opening.proofs.migrating.convert_and_fill.Goals as goal
 
 pub returns : goal.returns

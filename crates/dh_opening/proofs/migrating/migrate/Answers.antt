@@ -1,7 +1,7 @@
 use Rattle.std.proofs.Common.{◌∙◌, ◌⊎◌, Err, ap, subst}
 use Rattle.sqlite.specs.Held.{state}
 use Rattle.dh_rows.specs.Calls.{IsBlamed}
-use Rattle.dh_schema.specs.Tables.{lists_of}
+use Rattle.dh_records.specs.Tables.{lists_of}
 use Rattle.dh_opening.specs.Opening.{IsOurs, OnFailed}
 use Rattle.dh_opening.specs.Migrating.{IsBehind, IsOld, LeavesMigrated}
 use Rattle.dh_opening.proofs.BringLemmas.{is_open, is_brought, is_committed, is_last, are_sound, keeps}

@@ -2,7 +2,7 @@ use Rattle.dh_opening.proofs.BringLemmas.{any_err, handed_failed, handed_ours, s
 use Rattle.dh_opening.proofs.MigrateLemmas.{old_not_ours}
 use Rattle.std.proofs.Common.{◌∙◌, inl, inr, subst, sym, true≢false}
 use Rattle.sqlite.specs.Held.{state}
-use Rattle.dh_schema.specs.InTurn.{blamed_before, lasts_on}
+use Rattle.dh_records.specs.InTurn.{blamed_before, lasts_on}
 use Rattle.dh_opening.specs.Migrating.{IsBehind, IsMigrated, IsOld}
 use Rattle.dh_opening.proofs.migrating.migrate_tables.Goals as goal
 

@@ -4,7 +4,7 @@ use Rattle.dh_constraints.specs.Lists.{lists_in}
 use Rattle.dh_records.specs.Codings as coding
 use Rattle.dh_records.specs.Constraints.{InOrder}
 use Rattle.dh_rows.specs.Places.{records_of}
-use Rattle.dh_migrating.specs.OldPasses.{old_passes, old_lists_of, without_end}
+use Rattle.dh_opening.specs.OldPasses.{old_passes, old_lists_of, without_end}
 use Rattle.dh_opening.specs.OurTables.{other_tables}
 use Rattle.dh_opening.specs.Migrating.{AreOldIn}
 use Rattle.dh_opening.specs.ThinPages.{made_whole}

@@ -7,7 +7,7 @@ use Rattle.dh_records.specs.Codings.{passes}
 use Rattle.dh_records.specs.Lists.{base_of}
 use Rattle.dh_records.specs.Typed.{IsPass}
 use Rattle.dh_rows.specs.Shapes.{StandsAlone}
-use Rattle.dh_schema.specs.Tables.{lists_of, pass_table}
+use Rattle.dh_records.specs.Tables.{lists_of, pass_table}
 use Rattle.dh_opening.specs.Opening.{StandFor}
 use Rattle.dh_opening.specs.OurTables.{other_tables}
 use Rattle.dh_opening.specs.ThinPages.{made_whole}

@@ -1,10 +1,10 @@
 use Rattle.std.proofs.Common.{◌∙◌, ap, rules, subst, sym}
 use Rattle.sqlite.specs.Effect.{Database}
 use Rattle.sqlite.specs.Held.{state}
-use Rattle.dh_schema.specs.Tables.{HoldsTables, lists_of}
+use Rattle.dh_records.specs.Tables.{HoldsTables, lists_of}
 use Rattle.dh_rows.proofs.Indexes.{placed}
 use Rattle.dh_rows.specs.Calls.{IsHonest}
-use Rattle.dh_schema.specs.Making.{CanMake, IsMade}
+use Rattle.dh_records.specs.Making.{CanMake, IsMade}
 use Rattle.dh_opening.proofs.opening.create.Goals as goal
 
 pub make_at_once-requires-clause-placed : goal.make_at_once-requires-clause-placed

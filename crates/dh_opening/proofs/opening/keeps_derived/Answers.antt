@@ -3,7 +3,7 @@ use Rattle.std.specs.List.{AllByRecursion}
 use Rattle.sqlite_schema.specs.declared.schema.Schema.{Schema}
 use Rattle.sqlite.specs.Held.{state}
 use Rattle.dh_rows.specs.Shapes.{StandsAlone}
-use Rattle.dh_schema.specs.Making.{derived_tables}
+use Rattle.dh_records.specs.Making.{derived_tables}
 use Rattle.dh_opening.proofs.Looks.{found_at_once}
 use Rattle.dh_opening.proofs.Spelling.{not_alone}
 use Rattle.dh_opening.proofs.opening.keeps_derived.Goals as goal

@@ -1,7 +1,7 @@
 use Rattle.std.proofs.Common.{◌∙◌, ◌⊎◌, Err, ap, subst}
 use Rattle.sqlite.specs.Held.{state}
 use Rattle.dh_rows.specs.Calls.{IsBlamed, IsHonest, LeavesNoMore}
-use Rattle.dh_schema.specs.Tables.{lists_of}
+use Rattle.dh_records.specs.Tables.{lists_of}
 use Rattle.dh_opening.specs.Opening.{IsNumbered, IsOurs, OnFailed}
 use Rattle.dh_opening.specs.Filling.{ChangesNothing, LacksDerived, LeavesOpened}
 use Rattle.dh_opening.proofs.BringLemmas.{is_open, is_brought, is_committed, is_last, are_sound, keeps}

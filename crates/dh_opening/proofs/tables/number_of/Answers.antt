@@ -2,7 +2,7 @@ use Rattle.std.proofs.Common.{subst, rules}
 use Rattle.sqlite_schema.specs.declared.schema.Schema.{Schema}
 use Rattle.sqlite.specs.Held.{state}
 use Rattle.dh_rows.specs.Shapes.{StandsAlone}
-use Rattle.dh_schema.specs.Tables.{meta_table}
+use Rattle.dh_records.specs.Tables.{meta_table}
 use Rattle.dh_opening.proofs.Looks.{handed, refused_at_once}
 use Rattle.dh_opening.proofs.Spelling.{not_alone, none_numbered}
 use Rattle.dh_opening.proofs.tables.number_of.Goals as goal

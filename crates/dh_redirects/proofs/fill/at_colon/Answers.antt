@@ -1,7 +1,7 @@
 use Rattle.std.proofs.Common.{lit<, ◌∙◌, sym, ap₂, ◌∷◌, ◌==◌}
 use Rattle.std.proofs.lemmas.List.Splits.{slice_split_first}
 use Rattle.dh_redirects.specs.Locations.{colon_parts}
-use Rattle.dh_paths.proofs.AddressLemmas.{slice_split_whole}
+use Rattle.dh_texts.proofs.AddressLemmas.{slice_split_whole}
 use Rattle.dh_redirects.proofs.fill.at_colon.Goals as goal
 
 pub returns-in-Some-clause-parts : goal.returns-in-Some-clause-parts

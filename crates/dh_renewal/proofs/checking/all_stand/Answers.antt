@@ -3,7 +3,7 @@ use Rattle.std.proofs.lemmas.Result.{IfOk-weaker}
 use Rattle.dh_records.specs.Constraints.{AreSound}
 use Rattle.dh_records.specs.Lists.{Lists}
 use Rattle.dh_tables.specs.Going.{records}
-use Rattle.dh_derived.specs.Rightness.{AreRight}
+use Rattle.dh_stored_names.specs.Rightness.{AreRight}
 use Rattle.dh_renewal.proofs.checking.all_stand.Goals as goal
 
 pub returns-clause-value : goal.returns-clause-value

@@ -1,6 +1,6 @@
 use Rattle.std.proofs.Common.{◌≡◌, ◌∙◌, List, [], length, sym, ap, subst, rules}
-use Rattle.dh_schema.specs.InTurn.{goes_on}
-use Rattle.dh_class_names.specs.declared.class_names.ClassNames.{ClassNames}
+use Rattle.dh_records.specs.InTurn.{goes_on}
+use Rattle.dh_stored_names.specs.declared.class_names.ClassNames.{ClassNames}
 use Rattle.dh_records.specs.Constraints.{AreSound}
 use Rattle.dh_records.specs.Lists.{Lists}
 use Rattle.dh_tables.specs.Going.{records}

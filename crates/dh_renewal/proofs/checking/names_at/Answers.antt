@@ -1,10 +1,10 @@
 use Rattle.std.proofs.Common.{◌≡◌, ◌∙◌, map, subst}
 use Rattle.std.proofs.lemmas.Result.{IfOk-weaker}
-use Rattle.dh_class_names.specs.ClassNames.{class_names}
+use Rattle.dh_stored_names.specs.ClassNames.{class_names}
 use Rattle.dh_records.specs.Constraints.{AreSound}
 use Rattle.dh_records.specs.Lists.{Lists}
 use Rattle.dh_tables.specs.Going.{records}
-use Rattle.dh_derived.specs.Renewed.{classes_at}
+use Rattle.dh_stored_names.specs.Renewed.{classes_at}
 use Rattle.dh_renewal.specs.Renewing.{FindsBranch, HasBranch, OfBranch}
 use Rattle.dh_renewal.specs.Standing.{names_at}
 use Rattle.dh_renewal.proofs.StandsLemmas.{named_at, none_named_at}

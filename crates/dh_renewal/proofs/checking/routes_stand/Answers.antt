@@ -1,6 +1,6 @@
 use Rattle.std.proofs.Common.{◌≡◌, ◌∙◌, true, sym, ap, subst, rules}
 use Rattle.std.specs.List.{AllByRecursion}
-use Rattle.dh_schema.specs.InTurn.{goes_on}
+use Rattle.dh_records.specs.InTurn.{goes_on}
 use Rattle.dh_records.specs.Lists.{Lists}
 use Rattle.dh_tables.specs.Going.{records}
 use Rattle.dh_renewal.specs.Standing.{RoutesStand}

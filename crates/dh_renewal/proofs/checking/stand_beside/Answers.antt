@@ -1,12 +1,12 @@
 use Rattle.std.proofs.Common.{◌≡◌, ◌∙◌, true, IsTrue, List, subst, rules}
 use Rattle.std.specs.List.{AllByRecursion, list_any}
 use Rattle.std.proofs.lemmas.Result.{IfOk-weaker}
-use Rattle.dh_schema.specs.InTurn.{goes_on}
+use Rattle.dh_records.specs.InTurn.{goes_on}
 use Rattle.dh_records.specs.Constraints.{AreSound}
 use Rattle.dh_records.specs.Lists.{Lists, is_project}
 use Rattle.dh_records.specs.declared.records.ProjectRow.{ProjectRow}
 use Rattle.dh_tables.specs.Going.{records}
-use Rattle.dh_derived.specs.Rightness.{AreRight}
+use Rattle.dh_stored_names.specs.Rightness.{AreRight}
 use Rattle.dh_renewal.specs.Standing.{AreAliasesDue, RoutesStand}
 use Rattle.dh_renewal.proofs.StandsLemmas.{stand_right}
 use Rattle.dh_renewal.specs.Looks.{looks_on}

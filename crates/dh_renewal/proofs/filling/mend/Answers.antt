@@ -1,5 +1,5 @@
 use Rattle.std.proofs.Common.{◌∙◌, refl, sym, subst}
-use Rattle.dh_schema.specs.InTurn.{goes_anywhere}
+use Rattle.dh_records.specs.InTurn.{goes_anywhere}
 use Rattle.dh_records.specs.Constraints.{AreSound}
 use Rattle.dh_tables.specs.Going.{records}
 use Rattle.dh_renewal.proofs.FillingLemmas.{derived_so, mended_goes, mended_made, mended_sees}

@@ -1,6 +1,6 @@
 use Rattle.std.proofs.Common.{sym, subst}
 use Rattle.std.proofs.lemmas.Result.{IfOk-weaker}
-use Rattle.dh_plans.specs.declared.edits.Edit.{Edit}
+use Rattle.dh_commands.specs.declared.edits.Edit.{Edit}
 use Rattle.dh_records.specs.Lists.{Lists}
 use Rattle.dh_tables.specs.Going.{records}
 use Rattle.dh_renewal.specs.Finding.{CoversPut, CoversEdit}

@@ -1,7 +1,7 @@
 use Rattle.std.proofs.Common.{◌∙◌, sym, subst}
 use Rattle.std.proofs.lemmas.Result.{IfOk-weaker}
-use Rattle.dh_derived.specs.Renewals.{FitsAdded}
-use Rattle.dh_derived.specs.declared.renewals.Renewal.TheVariants.{Nothing}
+use Rattle.dh_stored_names.specs.Renewals.{FitsAdded}
+use Rattle.dh_stored_names.specs.declared.renewals.Renewal.TheVariants.{Nothing}
 use Rattle.dh_records.specs.Lists.{Lists}
 use Rattle.dh_tables.specs.Going.{records}
 use Rattle.dh_renewal.specs.Finding.{CoversNew, IsStable}

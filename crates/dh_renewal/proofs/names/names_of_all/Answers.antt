@@ -1,10 +1,10 @@
 use Rattle.std.proofs.Common.{◌≡◌, ◌∙◌, map, ap, subst}
 use Rattle.std.proofs.lemmas.Result.{IfOk-weaker}
-use Rattle.dh_class_names.specs.ClassNames.{class_names, classes_of}
+use Rattle.dh_stored_names.specs.ClassNames.{class_names, classes_of}
 use Rattle.dh_records.specs.Constraints.{AreSound}
 use Rattle.dh_records.specs.Lists.{Lists}
 use Rattle.dh_tables.specs.Going.{records}
-use Rattle.dh_derived.specs.Renewed.{classes_at}
+use Rattle.dh_stored_names.specs.Renewed.{classes_at}
 use Rattle.dh_renewal.specs.Renewing.{OfBranch}
 use Rattle.dh_renewal.proofs.names.names_of_all.Goals as goal
 

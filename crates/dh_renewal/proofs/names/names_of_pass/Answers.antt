@@ -1,7 +1,7 @@
 use Rattle.std.proofs.Common.{Bool, true, false, Some, not, filter, is_some, ◌≡◌, ap, subst, ◌∙◌}
 use Rattle.std.proofs.lemmas.Result.{IfOk-weaker}
-use Rattle.dh_derived.specs.Renewed.{names_due}
-use Rattle.dh_schema.specs.InTurn.{goes_on}
+use Rattle.dh_stored_names.specs.Renewed.{names_due}
+use Rattle.dh_records.specs.InTurn.{goes_on}
 use Rattle.dh_records.specs.Constraints.{AreSound}
 use Rattle.dh_records.specs.Lists.{Lists, is_held_by}
 use Rattle.dh_tables.specs.Going.{records}

@@ -1,8 +1,8 @@
 use Rattle.std.proofs.Common.{sym, subst}
 use Rattle.dh_records.specs.Lists.{Lists}
 use Rattle.dh_tables.specs.Going.{records}
-use Rattle.dh_derived.specs.Renewed.{renewed_at}
-use Rattle.dh_derived.specs.declared.renewals.Renewal.TheVariants.{Aliases}
+use Rattle.dh_stored_names.specs.Renewed.{renewed_at}
+use Rattle.dh_stored_names.specs.declared.renewals.Renewal.TheVariants.{Aliases}
 use Rattle.dh_renewal.specs.Renewing.{set_all}
 use Rattle.dh_renewal.specs.Standing.{AreApart}
 use Rattle.dh_renewal.proofs.SaidLemmas.{classes_apart}

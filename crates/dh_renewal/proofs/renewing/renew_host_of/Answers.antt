@@ -1,7 +1,7 @@
 use Rattle.std.proofs.Common.{sym, subst}
 use Rattle.dh_records.specs.Lists.{Lists}
 use Rattle.dh_tables.specs.Going.{records}
-use Rattle.dh_derived.specs.Renewed.{renew_routes, host_renewed_at}
+use Rattle.dh_stored_names.specs.Renewed.{renew_routes, host_renewed_at}
 use Rattle.dh_records.specs.Changes.{drop_aliases}
 use Rattle.dh_renewal.specs.Renewing.{set_all}
 use Rattle.dh_renewal.specs.Standing.{AreApart}

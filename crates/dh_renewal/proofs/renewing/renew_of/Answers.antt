@@ -1,5 +1,5 @@
 use Rattle.std.proofs.Common.{subst}
-use Rattle.dh_derived.specs.declared.renewals.Renewal.{Renewal}
+use Rattle.dh_stored_names.specs.declared.renewals.Renewal.{Renewal}
 use Rattle.dh_tables.specs.Going.{records}
 use Rattle.dh_renewal.specs.Renewing.{LacksRenewal}
 use Rattle.dh_renewal.proofs.renewing.renew_of.Goals as goal

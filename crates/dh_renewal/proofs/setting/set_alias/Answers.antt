@@ -1,7 +1,7 @@
 use Rattle.std.proofs.Common.{refl, sym, ap, ◌∙◌}
 use Rattle.dh_records.specs.Lists.{Lists}
-use Rattle.dh_derived.specs.Rightness.{kept_at}
-use Rattle.dh_derived.specs.Renewed.{set_alias}
+use Rattle.dh_stored_names.specs.Rightness.{kept_at}
+use Rattle.dh_stored_names.specs.Renewed.{set_alias}
 use Rattle.dh_renewal.proofs.Together.{looked}
 use Rattle.dh_renewal.proofs.setting.set_alias.Goals as goal
 

@@ -1,6 +1,6 @@
 use Rattle.std.proofs.Common.{◌∙◌}
 use Rattle.dh_tables.specs.Going.{records}
-use Rattle.dh_derived.specs.Renewed.{set_alias}
+use Rattle.dh_stored_names.specs.Renewed.{set_alias}
 use Rattle.dh_renewal.proofs.StandingLemmas.{set_kept}
 use Rattle.dh_renewal.proofs.Together.{unchanged}
 use Rattle.dh_renewal.proofs.setting.set_alias_beside.Goals as goal

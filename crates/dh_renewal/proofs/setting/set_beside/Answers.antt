@@ -1,7 +1,7 @@
 use Rattle.std.proofs.Common.{List, ◌∙◌, refl, sym, ap, subst}
 use Rattle.dh_tables.specs.Going.{records}
 use Rattle.dh_tables.proofs.Together.{goes_within_on}
-use Rattle.dh_class_names.specs.declared.class_names.ClassNames.{ClassNames}
+use Rattle.dh_stored_names.specs.declared.class_names.ClassNames.{ClassNames}
 use Rattle.dh_renewal.specs.Renewing.{set_all}
 use Rattle.dh_renewal.specs.Standing.{AreSaid}
 use Rattle.dh_renewal.proofs.RenewingLemmas.{set_last}

@@ -2,7 +2,7 @@ use Rattle.std.proofs.Common.{◌∙◌, sym, ap, subst}
 use Rattle.dh_world.specs.World.{Text}
 use Rattle.dh_records.specs.Lists.{class_text}
 use Rattle.dh_tables.specs.Going.{ChangesRecords, records}
-use Rattle.dh_derived.specs.Renewed.{set_names}
+use Rattle.dh_stored_names.specs.Renewed.{set_names}
 use Rattle.dh_renewal.proofs.SaidLemmas.{class_said}
 use Rattle.dh_renewal.proofs.setting.set_class_beside.Goals as goal
 

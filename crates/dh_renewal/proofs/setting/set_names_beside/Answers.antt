@@ -2,7 +2,7 @@ use Rattle.std.proofs.Common.{refl, sym, ap, ◌∙◌}
 use Rattle.dh_records.specs.Lists.{Lists}
 use Rattle.dh_records.specs.declared.records.AliasName.TheVariants.{Latest, Stable, Default}
 use Rattle.dh_tables.specs.Going.{records}
-use Rattle.dh_derived.specs.Rightness.{kept_at}
+use Rattle.dh_stored_names.specs.Rightness.{kept_at}
 use Rattle.dh_renewal.proofs.SaidLemmas.{other_name}
 use Rattle.dh_renewal.proofs.setting.set_names_beside.Goals as goal
 

@@ -1,6 +1,6 @@
 use Rattle.std.proofs.Common.{subst}
 use Rattle.std.proofs.lemmas.Result.{IfOk-weaker}
-use Rattle.dh_class_names.specs.Highest.{IsHighest, IsPublic, IsSeenWith}
+use Rattle.dh_stored_names.specs.Highest.{IsHighest, IsPublic, IsSeenWith}
 use Rattle.dh_records.specs.Lists.{Lists}
 use Rattle.dh_tables.specs.Going.{records}
 use Rattle.dh_renewal.specs.ByKey.{versions_at}

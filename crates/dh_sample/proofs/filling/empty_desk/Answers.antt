@@ -1,5 +1,5 @@
 use Rattle.std.proofs.Common.{sym, subst}
-use Rattle.dh_derived.specs.Consistent.{AreConsistent}
+use Rattle.dh_stored_names.specs.Consistent.{AreConsistent}
 use Rattle.dh_renewal.proofs.FillingLemmas.{none_consistent}
 use Rattle.dh_sample.proofs.filling.empty_desk.Goals as goal
 

@@ -1,5 +1,5 @@
 use Rattle.std.proofs.Common.{◌≡◌, ◌∙◌, Some, ap, refl, rules, sym}
-use Rattle.dh_paths.specs.Targets.{target_of}
+use Rattle.dh_texts.specs.Targets.{target_of}
 use Rattle.dh_desk.proofs.Moving.{WorldGoesBy-refl}
 use Rattle.dh_script.proofs.orders.do_get.Goals as goal
 

@@ -1,6 +1,6 @@
 use Rattle.std.proofs.Common.{◌≡◌, false, take}
 use Rattle.dh_desk.specs.Desk.{WorldGoesBy}
-use Rattle.dh_word_tables.specs.Apps.{StandsFor}
+use Rattle.dh_lines.specs.Apps.{StandsFor}
 use Rattle.dh_lines.specs.App.{docs_app}
 use Rattle.dh_script.specs.Running.{RunsInto, words_seen}
 use Rattle.dh_script.proofs.script.run_batch.Given as goal

@@ -1,8 +1,8 @@
 use Rattle.std.proofs.Common.{rules, List, sym, subst, ◌∙◌}
 use Rattle.std.specs.Vec.Iter.{into_iter_items}
 use Rattle.std.proofs.lemmas.List.{nil_from_length}
-use Rattle.dh_plans.specs.declared.edits.Edit.{Edit}
-use Rattle.dh_derived.specs.declared.renewals.Renewal.TheVariants.{Nothing}
+use Rattle.dh_commands.specs.declared.edits.Edit.{Edit}
+use Rattle.dh_stored_names.specs.declared.renewals.Renewal.TheVariants.{Nothing}
 use Rattle.dh_tables.specs.Going.{records}
 use Rattle.dh_tables.proofs.Together.{goes_within_on}
 use Rattle.dh_transactions.proofs.EditingLemmas.{IsMidway, midway_first, midway_last, midway_may, midway_next}

@@ -1,5 +1,5 @@
 use Rattle.std.proofs.Common.{◌∙◌}
-use Rattle.dh_plans.specs.Edits.{MayEdit, edited}
+use Rattle.dh_commands.specs.Edits.{MayEdit, edited}
 use Rattle.dh_transactions.proofs.EditingLemmas.{edits_then, renewed_may}
 use Rattle.dh_transactions.proofs.editing.edit_once.Goals as goal
 

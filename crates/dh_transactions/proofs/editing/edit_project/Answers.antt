@@ -1,4 +1,4 @@
-use Rattle.dh_plans.specs.Edits.{all_edited}
+use Rattle.dh_commands.specs.Edits.{all_edited}
 use Rattle.dh_transactions.proofs.EditingLemmas.{lacks_then, project_edited, sound_then}
 use Rattle.dh_transactions.proofs.editing.edit_project.Goals as goal
 

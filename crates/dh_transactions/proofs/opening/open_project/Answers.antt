@@ -1,5 +1,5 @@
 use Rattle.std.proofs.Common.{Ok, sym, subst}
-use Rattle.dh_checks.specs.Commands.{command_of}
+use Rattle.dh_commands.specs.Commands.{command_of}
 use Rattle.dh_records.specs.Lists.{Lists}
 use Rattle.dh_transactions.proofs.OpenLemmas.{opened_here}
 use Rattle.dh_transactions.proofs.opening.open_project.Goals as goal

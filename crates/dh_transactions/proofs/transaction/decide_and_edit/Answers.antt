@@ -1,12 +1,12 @@
 use Rattle.std.proofs.Common.{Ok, sym, subst}
-use Rattle.dh_checks.specs.Commands.{command_of}
-use Rattle.dh_plans.specs.Edits.{MayEditAll, all_edited}
-use Rattle.dh_plans.specs.Knowing.{DecidesChange}
+use Rattle.dh_commands.specs.Commands.{command_of}
+use Rattle.dh_commands.specs.Edits.{MayEditAll, all_edited}
+use Rattle.dh_commands.specs.Knowing.{DecidesChange}
 use Rattle.dh_records.specs.Lists.{Lists}
 use Rattle.dh_transactions.proofs.Crashing.{stays_on}
 use Rattle.dh_transactions.proofs.Working.{turn_refused, edits_may, turn_done}
 use Rattle.dh_transactions.proofs.transaction.decide_and_edit.Goals as goal
-use Rattle.dh_facts.specs.Finding.{FindsFacts}
+use Rattle.dh_edits.specs.Finding.{FindsFacts}
 use Rattle.dh_tables.specs.Going.{records}
 use Rattle.dh_transactions.specs.Editing.{ChangesProject, MayChange}
 

@@ -1,5 +1,5 @@
 use Rattle.std.proofs.Common.{◌∙◌, rules, subst}
-use Rattle.dh_checks.specs.Commands.{command_of}
+use Rattle.dh_commands.specs.Commands.{command_of}
 use Rattle.dh_rows.specs.Calls.{IsHonest}
 use Rattle.dh_records.specs.Lists.{Lists}
 use Rattle.dh_transactions.proofs.Crashing.{given_ok, ended_leaves, refused_after, worked_no_more}

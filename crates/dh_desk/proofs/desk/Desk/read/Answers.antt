@@ -1,7 +1,7 @@
 use Rattle.std.proofs.Common.{◌≡◌, IfOk, refl, ap, subst}
 use Rattle.std.specs.Option.{option_map}
 use Rattle.dh_records.specs.Lists.{world_of}
-use Rattle.dh_wire.specs.declared.reply.Reply.{Reply}
+use Rattle.dh_reads.specs.declared.reply.Reply.{Reply}
 use Rattle.dh_world.specs.World.{World}
 use Rattle.dh_desk.specs.Desk.{last_records, world, reply_in, veil_of}
 use Rattle.dh_desk.proofs.Keeping.{unmoved_keeps}

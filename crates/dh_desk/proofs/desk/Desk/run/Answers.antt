@@ -1,8 +1,8 @@
 use Rattle.std.proofs.Common.{◌≡◌, ◌+◌, List, [], ◌∷◌, ◌++◌, take, length, refl, sym, ap, ◌∙◌, subst, subst₂, arith, rules, length-append}
 use Rattle.std.proofs.lemmas.List.{take_all, take_more}
-use Rattle.dh_histories.specs.declared.call.Call.{Call}
-use Rattle.dh_histories.specs.CallsDone.{AreCallsDone}
-use Rattle.dh_histories.proofs.CallLemmas.{calls_and_one}
+use Rattle.dh_laws.specs.declared.call.Call.{Call}
+use Rattle.dh_laws.specs.CallsDone.{AreCallsDone}
+use Rattle.dh_laws.proofs.CallLemmas.{calls_and_one}
 use Rattle.dh_world.specs.declared.outcome.Outcome.{Outcome}
 use Rattle.dh_desk.specs.Desk.{WorldGoesBy}
 use Rattle.dh_desk.specs.DeskRuns.{DoesWhileOpen}

@@ -1,5 +1,5 @@
 use Rattle.std.proofs.Common.{◌≡◌, ◌≤◌, take, length, vec_capacity}
-use Rattle.dh_histories.specs.CallsDone.{AreCallsDone}
+use Rattle.dh_laws.specs.CallsDone.{AreCallsDone}
 use Rattle.dh_desk.specs.Desk.{WorldGoesBy}
 use Rattle.dh_desk.specs.DeskRuns.{DoesWhileOpen}
 use Rattle.dh_desk.proofs.desk.Desk.run.Given as goal

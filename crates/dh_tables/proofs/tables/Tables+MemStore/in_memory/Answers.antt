@@ -2,8 +2,8 @@ use Rattle.std.proofs.Common.{refl, sym, ap, subst, ◌∙◌}
 use Rattle.sqlite.proofs.Callers.{memory_is_clean}
 use Rattle.sqlite.specs.Effect.{Database}
 use Rattle.dh_records.specs.Lists.{world_of}
-use Rattle.dh_schema.specs.Tables.{HoldsTables, lists_of}
-use Rattle.dh_schema.proofs.Made.{all_ready, world_empty}
+use Rattle.dh_records.specs.Tables.{HoldsTables, lists_of}
+use Rattle.dh_records.proofs.Made.{all_ready, world_empty}
 use Rattle.sqlite.specs.Steps.{over_memory}
 use Rattle.dh_tables.proofs.PagesKept.{none_right}
 use Rattle.dh_tables.proofs.tables.Tables+MemStore.in_memory.Goals as goal

@@ -1,4 +1,4 @@
-use Rattle.dh_schema.proofs.CallLemmas.{all_value}
+use Rattle.dh_records.proofs.CallLemmas.{all_value}
 use Rattle.dh_tables.proofs.Asking.{asks, may_look, reads}
 use Rattle.dh_tables.proofs.PagesKept.{looked}
 use Rattle.dh_tables.proofs.tables.Tables.all_records.Goals as goal

@@ -1,4 +1,4 @@
-use Rattle.dh_schema.proofs.CallLemmas.{undone_ours}
+use Rattle.dh_records.proofs.CallLemmas.{undone_ours}
 use Rattle.dh_tables.proofs.PagesKept.{right_on}
 use Rattle.dh_tables.proofs.tables.Tables.back.Goals as goal
 

@@ -1,4 +1,4 @@
-use Rattle.dh_schema.proofs.CallLemmas.{stay_ours, begun_keeps}
+use Rattle.dh_records.proofs.CallLemmas.{stay_ours, begun_keeps}
 use Rattle.dh_tables.proofs.PagesKept.{right_on}
 use Rattle.dh_tables.proofs.tables.Tables.begin.Goals as goal
 

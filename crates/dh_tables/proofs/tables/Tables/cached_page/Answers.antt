@@ -1,5 +1,5 @@
 use Rattle.dh_rows.specs.Calls.{committed, seen_now}
-use Rattle.dh_schema.specs.Tables.{lists_of}
+use Rattle.dh_records.specs.Tables.{lists_of}
 use Rattle.dh_tables.proofs.PagesKept.{fewer_pages}
 use Rattle.dh_tables.proofs.tables.Tables.cached_page.Goals as goal
 

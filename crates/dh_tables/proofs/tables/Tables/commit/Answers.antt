@@ -1,7 +1,7 @@
 use Rattle.std.proofs.Common.{◌∙◌, ap}
 use Rattle.sqlite.specs.Held.{state}
-use Rattle.dh_schema.specs.Tables.{lists_of}
-use Rattle.dh_schema.proofs.CallLemmas.{stay_ours, done_keeps, done_steady, commit_leaves}
+use Rattle.dh_records.specs.Tables.{lists_of}
+use Rattle.dh_records.proofs.CallLemmas.{stay_ours, done_keeps, done_steady, commit_leaves}
 use Rattle.dh_tables.proofs.PagesKept.{right_on}
 use Rattle.dh_tables.proofs.tables.Tables.commit.Goals as goal
 

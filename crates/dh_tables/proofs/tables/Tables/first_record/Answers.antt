@@ -1,4 +1,4 @@
-use Rattle.dh_schema.proofs.CallLemmas.{first_value}
+use Rattle.dh_records.proofs.CallLemmas.{first_value}
 use Rattle.dh_tables.proofs.Asking.{asks, first_read, may_look, reads}
 use Rattle.dh_tables.proofs.PagesKept.{looked}
 use Rattle.dh_tables.proofs.tables.Tables.first_record.Goals as goal

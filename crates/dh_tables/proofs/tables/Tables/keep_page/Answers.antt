@@ -2,7 +2,7 @@ use Rattle.std.proofs.Common.{rules, ◌≡◌, Some, subst, sym}
 use Rattle.sqlite.specs.Held.{state}
 use Rattle.sqlite.specs.Effect.{Database}
 use Rattle.dh_rows.specs.Calls.{committed, seen_now}
-use Rattle.dh_schema.specs.Tables.{lists_of}
+use Rattle.dh_records.specs.Tables.{lists_of}
 use Rattle.dh_page_cache.specs.Keys.{texts_of}
 use Rattle.dh_tables.specs.Pages.{page_under}
 use Rattle.dh_tables.proofs.PagesKept.{with_page}

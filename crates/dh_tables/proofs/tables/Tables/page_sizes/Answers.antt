@@ -1,7 +1,7 @@
 use Rattle.sqlite.specs.Held.{state}
 use Rattle.sqlite.specs.Values.{bound}
 use Rattle.dh_records.specs.Codings.{pages}
-use Rattle.dh_schema.specs.Calling.{AreAsked}
+use Rattle.dh_records.specs.Calling.{AreAsked}
 use Rattle.dh_tables.proofs.Asking.{asks, may_look, reads}
 use Rattle.dh_tables.proofs.PagesKept.{looked}
 use Rattle.dh_tables.proofs.SizeLemmas.{sizes_value}

@@ -1,7 +1,7 @@
 use Rattle.std.proofs.Common.{rules, ◌∙◌}
 use Rattle.dh_rows.specs.Calls.{seen_now}
-use Rattle.dh_schema.specs.InTurn.{goes_within}
-use Rattle.dh_schema.specs.Tables.{lists_of}
+use Rattle.dh_records.specs.InTurn.{goes_within}
+use Rattle.dh_records.specs.Tables.{lists_of}
 use Rattle.dh_tables.proofs.PickLemmas.{taken_out, set_after}
 use Rattle.dh_tables.proofs.tables.Tables.set_picks.Goals as goal
 

@@ -1,5 +1,5 @@
 use Rattle.std.proofs.Common.{rules, ◌∙◌}
-use Rattle.dh_schema.specs.InTurn.{goes_within}
+use Rattle.dh_records.specs.InTurn.{goes_within}
 use Rattle.dh_tables.proofs.RouteLemmas.{routes_after}
 use Rattle.dh_tables.proofs.tables.Tables.set_routes.Goals as goal
 

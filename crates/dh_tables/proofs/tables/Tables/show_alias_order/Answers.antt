@@ -1,7 +1,7 @@
 use Rattle.std.proofs.Common.{subst}
 use Rattle.sqlite.specs.Held.{state}
 use Rattle.dh_rows.specs.Calls.{AreOurs}
-use Rattle.dh_schema.specs.Tables.{HoldsTables}
+use Rattle.dh_records.specs.Tables.{HoldsTables}
 use Rattle.dh_tables.proofs.OrderLemmas.{aliases_in_order}
 use Rattle.dh_tables.proofs.tables.Tables.show_alias_order.Goals as goal
 

@@ -1,5 +1,5 @@
 use Rattle.sqlite.specs.Values.{bound}
-use Rattle.dh_schema.proofs.CallLemmas.{wrote, written_ours}
+use Rattle.dh_records.proofs.CallLemmas.{wrote, written_ours}
 use Rattle.dh_tables.proofs.PagesKept.{wrote_right}
 use Rattle.dh_tables.proofs.tables.Tables.write.Goals as goal
 

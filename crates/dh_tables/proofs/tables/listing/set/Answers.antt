@@ -1,7 +1,7 @@
 use Rattle.std.proofs.Common.{filter, sym, ap, ◌∙◌}
 use Rattle.dh_records.specs.Lists.{Lists}
 use Rattle.dh_rows.specs.Calls.{seen_now}
-use Rattle.dh_schema.specs.Tables.{lists_of}
+use Rattle.dh_records.specs.Tables.{lists_of}
 use Rattle.dh_tables.specs.Listing.{is_own}
 use Rattle.dh_tables.proofs.SettingLemmas.{set_after}
 use Rattle.dh_tables.proofs.tables.listing.set.Goals as goal

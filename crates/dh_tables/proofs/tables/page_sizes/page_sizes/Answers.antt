@@ -2,8 +2,8 @@ use Rattle.sqlite.specs.Held.{state}
 use Rattle.sqlite.specs.Values.{bound}
 use Rattle.dh_records.specs.Codings.{pages}
 use Rattle.dh_records.proofs.ReadingLemmas.{handed_on}
-use Rattle.dh_schema.specs.Calling.{AreAsked}
-use Rattle.dh_schema.proofs.CallLemmas.{inl_or}
+use Rattle.dh_records.specs.Calling.{AreAsked}
+use Rattle.dh_records.proofs.CallLemmas.{inl_or}
 use Rattle.dh_tables.proofs.GatherLemmas.{looks_either}
 use Rattle.dh_tables.proofs.SizeLemmas.{sizes_given, unread_told}
 use Rattle.dh_tables.proofs.tables.page_sizes.page_sizes.Goals as goal

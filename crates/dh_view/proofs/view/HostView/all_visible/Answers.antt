@@ -1,6 +1,6 @@
 use Rattle.std.proofs.Common.{rules, ◌∙◌, ap, map, subst}
 use Rattle.dh_rows.specs.Calls.{seen_now}
-use Rattle.dh_schema.specs.Tables.{lists_of}
+use Rattle.dh_records.specs.Tables.{lists_of}
 use Rattle.dh_records.specs.Constraints.{RiseBySlug}
 use Rattle.dh_records.specs.declared.records.VersionRow.{VersionRow}
 use Rattle.dh_view.proofs.Shown.{kept_are}

@@ -1,7 +1,7 @@
 use Rattle.std.proofs.Common.{[], None, ap, ◌∙◌}
 use Rattle.dh_rows.specs.Calls.{seen_now}
-use Rattle.dh_schema.specs.Tables.{lists_of}
-use Rattle.dh_segments.specs.Segments.{first_segment}
+use Rattle.dh_records.specs.Tables.{lists_of}
+use Rattle.dh_redirects.specs.Segments.{first_segment}
 use Rattle.dh_view.specs.Stored.{best_in}
 use Rattle.dh_view.proofs.ViewLemmas.{reads_on, still}
 use Rattle.dh_view.proofs.view.HostView.best_at.Goals as goal

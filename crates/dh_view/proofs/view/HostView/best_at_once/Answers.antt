@@ -1,6 +1,6 @@
 use Rattle.std.proofs.Common.{rules, ◌∙◌}
 use Rattle.dh_rows.specs.Calls.{seen_now}
-use Rattle.dh_schema.specs.Tables.{lists_of}
+use Rattle.dh_records.specs.Tables.{lists_of}
 use Rattle.dh_view.specs.Stored.{led_among, led_at}
 use Rattle.dh_view.proofs.Leading.{best_same, among_is}
 use Rattle.dh_view.proofs.view.HostView.best_at_once.Goals as goal

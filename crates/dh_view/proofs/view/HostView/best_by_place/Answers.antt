@@ -1,7 +1,7 @@
 use Rattle.std.proofs.Common.{◌∙◌, Ok, refl, ap, sym, arith}
 use Rattle.std.proofs.lemmas.List.{at_drop_all}
 use Rattle.dh_rows.specs.Calls.{seen_now}
-use Rattle.dh_schema.specs.Tables.{lists_of}
+use Rattle.dh_records.specs.Tables.{lists_of}
 use Rattle.dh_view.specs.Stored.{best_of, better, led_at}
 use Rattle.dh_view.proofs.Leading.{best_next}
 use Rattle.dh_view.proofs.ViewLemmas.{asks_none, asks_on, asks_then, obtains_handed, still}

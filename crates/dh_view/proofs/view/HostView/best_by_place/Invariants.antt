@@ -1,6 +1,6 @@
 use Rattle.std.proofs.Common.{◌≡◌, Ok, drop}
 use Rattle.dh_rows.specs.Calls.{IsHonest, seen_now}
-use Rattle.dh_schema.specs.Tables.{lists_of}
+use Rattle.dh_records.specs.Tables.{lists_of}
 use Rattle.dh_view.specs.Stored.{best_of, led_at}
 use Rattle.dh_view.specs.View.{LooksInTurn}
 use Rattle.dh_view.proofs.view.HostView.best_by_place.Given as goal

@@ -1,6 +1,6 @@
 use Rattle.std.proofs.Common.{ap, ◌∙◌}
 use Rattle.dh_rows.specs.Calls.{seen_now}
-use Rattle.dh_schema.specs.Tables.{lists_of}
+use Rattle.dh_records.specs.Tables.{lists_of}
 use Rattle.dh_view.specs.Stored.{best_of, led_at}
 use Rattle.dh_view.proofs.ViewLemmas.{asked, reads_on, still}
 use Rattle.dh_view.proofs.view.HostView.best_in.Goals as goal

@@ -1,6 +1,6 @@
 use Rattle.std.proofs.Common.{rules, sym, ◌∙◌}
 use Rattle.dh_rows.specs.Calls.{seen_now}
-use Rattle.dh_schema.specs.Tables.{lists_of}
+use Rattle.dh_records.specs.Tables.{lists_of}
 use Rattle.dh_view.proofs.PassLemmas.{none_private}
 use Rattle.dh_view.specs.View.{held_in}
 use Rattle.dh_view.proofs.view.HostView.grants_for.Goals as goal

@@ -1,6 +1,6 @@
 use Rattle.std.proofs.Common.{rules, ◌∙◌}
 use Rattle.dh_rows.specs.Calls.{seen_now}
-use Rattle.dh_schema.specs.Tables.{lists_of}
+use Rattle.dh_records.specs.Tables.{lists_of}
 use Rattle.dh_view.proofs.PassLemmas.{grants_open, held_none, none_open}
 use Rattle.dh_view.proofs.ViewLemmas.{asked, from_answer}
 use Rattle.dh_view.specs.View.{row_of}

@@ -1,6 +1,6 @@
 use Rattle.std.proofs.Common.{rules}
 use Rattle.dh_rows.specs.Calls.{seen_now}
-use Rattle.dh_schema.specs.Tables.{lists_of}
+use Rattle.dh_records.specs.Tables.{lists_of}
 use Rattle.dh_view.proofs.PassLemmas.{held_none, held_own}
 use Rattle.dh_view.proofs.ViewLemmas.{asked, same_answer}
 use Rattle.dh_view.specs.View.{row_of}

@@ -1,6 +1,6 @@
 use Rattle.std.proofs.Common.{rules, ◌∙◌, ap, filter, map}
 use Rattle.dh_rows.specs.Calls.{seen_now}
-use Rattle.dh_schema.specs.Tables.{lists_of}
+use Rattle.dh_records.specs.Tables.{lists_of}
 use Rattle.dh_records.specs.Lists.{is_page_in}
 use Rattle.dh_tables.specs.Sizes.{size_of_row}
 use Rattle.dh_view.proofs.ViewLemmas.{same_answer}

@@ -1,7 +1,7 @@
 use Rattle.std.proofs.Common.{rules, ap, sym, ◌∙◌}
 use Rattle.std.specs.Option.{option_map}
 use Rattle.dh_rows.specs.Calls.{seen_now}
-use Rattle.dh_schema.specs.Tables.{lists_of}
+use Rattle.dh_records.specs.Tables.{lists_of}
 use Rattle.dh_view.specs.View.{row_of}
 use Rattle.dh_view.proofs.Shown.{slug_is}
 use Rattle.dh_view.proofs.view.HostView.visible_slug.Goals as goal

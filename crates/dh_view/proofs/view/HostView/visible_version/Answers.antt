@@ -1,6 +1,6 @@
 use Rattle.std.proofs.Common.{rules, ap, ◌∙◌}
 use Rattle.dh_rows.specs.Calls.{seen_now}
-use Rattle.dh_schema.specs.Tables.{lists_of}
+use Rattle.dh_records.specs.Tables.{lists_of}
 use Rattle.dh_world.specs.Visibility.{may_see}
 use Rattle.dh_view.proofs.Shown.{when_absent, when_told}
 use Rattle.dh_view.proofs.ViewLemmas.{asked, asks_on, obtains_handed, still}

@@ -1,5 +1,5 @@
 use Rattle.dh_rows.specs.Calls.{seen_now}
-use Rattle.dh_schema.specs.Tables.{lists_of}
+use Rattle.dh_records.specs.Tables.{lists_of}
 use Rattle.dh_view.proofs.Shown.{sees_found}
 use Rattle.dh_view.proofs.ViewLemmas.{still_sees}
 use Rattle.dh_view.proofs.view.View.find_slug.Goals as goal

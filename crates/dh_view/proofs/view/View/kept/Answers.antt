@@ -1,6 +1,6 @@
 use Rattle.std.proofs.Common.{refl, rules}
 use Rattle.dh_rows.specs.Calls.{seen_now}
-use Rattle.dh_schema.specs.Tables.{lists_of}
+use Rattle.dh_records.specs.Tables.{lists_of}
 use Rattle.dh_view.proofs.Kept.{kept_shown}
 use Rattle.dh_view.proofs.ViewLemmas.{honest, recalls, same_answer, view_asks}
 use Rattle.dh_view.proofs.view.View.kept.Goals as goal

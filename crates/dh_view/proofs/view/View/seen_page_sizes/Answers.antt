@@ -1,7 +1,7 @@
 use Rattle.std.proofs.Common.{ap, filter, map, refl, sym, ◌∙◌}
 use Rattle.dh_records.specs.Lists.{is_page_in}
 use Rattle.dh_rows.specs.Calls.{seen_now}
-use Rattle.dh_schema.specs.Tables.{lists_of}
+use Rattle.dh_records.specs.Tables.{lists_of}
 use Rattle.dh_tables.specs.Sizes.{size_of_row}
 use Rattle.dh_view.specs.View.{slug_if_seen}
 use Rattle.dh_view.proofs.SeenPages.{sizes_seen, sizes_unseen}

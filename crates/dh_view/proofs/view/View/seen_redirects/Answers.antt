@@ -2,7 +2,7 @@ use Rattle.std.proofs.Common.{◌≡◌, filter, map, refl, ap, ◌∙◌}
 use Rattle.dh_rows.specs.Calls.{seen_now}
 use Rattle.dh_records.specs.Lists.{is_redirect_of}
 use Rattle.dh_records.specs.declared.records.RedirectRow.{RedirectRow}
-use Rattle.dh_schema.specs.Tables.{lists_of}
+use Rattle.dh_records.specs.Tables.{lists_of}
 use Rattle.dh_view.proofs.SeenPages.{redirects_under}
 use Rattle.dh_view.proofs.ViewLemmas.{all_none_under, all_under, asked, recalls, view_on}
 use Rattle.dh_view.proofs.view.View.seen_redirects.Goals as goal

@@ -3,7 +3,7 @@ use Rattle.std.specs.Option.{is_some}
 use Rattle.dh_records.specs.Lists.{is_page}
 use Rattle.dh_records.proofs.SeenLemmas.{mapped_some}
 use Rattle.dh_rows.specs.Calls.{seen_now}
-use Rattle.dh_schema.specs.Tables.{lists_of}
+use Rattle.dh_records.specs.Tables.{lists_of}
 use Rattle.dh_view.specs.View.{slug_if_seen}
 use Rattle.dh_view.proofs.Shown.{page_seen, page_unseen}
 use Rattle.dh_view.proofs.ViewLemmas.{asked, honest, same_answer, view_on}

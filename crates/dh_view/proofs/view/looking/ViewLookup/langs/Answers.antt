@@ -1,5 +1,5 @@
 use Rattle.dh_rows.specs.Calls.{seen_now}
-use Rattle.dh_schema.specs.Tables.{lists_of}
+use Rattle.dh_records.specs.Tables.{lists_of}
 use Rattle.std.proofs.Common.{◌∙◌}
 use Rattle.dh_view.proofs.Shown.{languages_shown}
 use Rattle.dh_view.proofs.ViewLemmas.{honest, same_answer}

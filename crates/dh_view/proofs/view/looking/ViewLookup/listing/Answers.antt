@@ -2,7 +2,7 @@ use Rattle.std.proofs.Common.{◌≡◌, filter, refl, ap, subst, ◌∙◌}
 use Rattle.dh_rows.specs.Calls.{seen_now}
 use Rattle.dh_records.specs.Constraints.{RiseBySlug}
 use Rattle.dh_records.specs.Lists.{is_version_of, project_of}
-use Rattle.dh_schema.specs.Tables.{lists_of}
+use Rattle.dh_records.specs.Tables.{lists_of}
 use Rattle.dh_world.specs.declared.caller.Caller.{Caller}
 use Rattle.dh_view.specs.View.{versions_in}
 use Rattle.dh_view.proofs.Shown.{versions_under}

@@ -1,7 +1,7 @@
 use Rattle.std.proofs.Common.{sym, ◌∙◌}
-use Rattle.dh_seen.specs.SeenProject.{alias_of, resolved}
+use Rattle.dh_reads.specs.SeenProject.{alias_of, resolved}
 use Rattle.dh_rows.specs.Calls.{seen_now}
-use Rattle.dh_schema.specs.Tables.{lists_of}
+use Rattle.dh_records.specs.Tables.{lists_of}
 use Rattle.dh_view.proofs.Shown.{name_seen, name_unseen}
 use Rattle.dh_view.proofs.ViewLemmas.{honest, tells_on}
 use Rattle.dh_view.proofs.view.looking.ViewLookup.name.Goals as goal

@@ -1,3 +1,0 @@
-pub mod Tops
-pub mod Names
-pub mod Puts

@@ -1,4 +1,0 @@
-pub mod Rows
-pub mod Find
-pub mod Highest
-pub mod ClassNames

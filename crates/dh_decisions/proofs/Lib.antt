@@ -1,5 +1,0 @@
-pub mod UploadPlans
-pub mod LanguagePlans
-pub mod DefaultPlans
-pub mod PlacePlans
-pub mod ImportPlans

@@ -1,9 +1,0 @@
-use Rattle.std.proofs.Common.{Ok}
-use Rattle.dh_plans.proofs.Planning.{plans_by}
-use Rattle.dh_decisions.proofs.PlacePlans.{rule_dropped}
-use Rattle.dh_decisions.proofs.rules.drop_rule.Goals as goal
-
-pub returns : goal.returns
-returns c p k =
-    plans_by p _ _ (Ok c.in_ok-one.field-0) c.in_ok-one.ensures
-    (rule_dropped c.args.facts.now p c.args.place k c.in_ok-rules.rules c.in_ok-rules.ensures)

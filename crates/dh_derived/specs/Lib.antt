@@ -1,4 +1,0 @@
-pub mod Rightness
-pub mod Renewals
-pub mod Renewed
-pub mod Consistent

@@ -1,5 +1,0 @@
-use Rattle.dh_histories.proofs.RepeatLemmas as repeats
-use Rattle.dh_histories.proofs.laws.runs_answer_for_good.Goals as goal
-
-pub returns : goal.returns
-returns c = repeats.runs_answer_for_good

@@ -1,4 +1,0 @@
-pub mod Runs
-pub mod Purge
-pub mod CallsDone
-pub mod Repeats

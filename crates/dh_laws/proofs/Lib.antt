@@ -1,0 +1,17 @@
+pub mod ClassLemmas
+pub mod ReplyLemmas
+pub mod AboveLemmas
+pub mod MemberLemmas
+pub mod SlugLemmas
+pub mod TopLemmas
+pub mod NameLemmas
+pub mod PassLemmas
+pub mod PutLemmas
+pub mod HiddenLemmas
+pub mod MapEdits
+pub mod ProjectEdits
+pub mod Mirrors
+pub mod Sight
+pub mod Purging
+pub mod CallLemmas
+pub mod RepeatLemmas

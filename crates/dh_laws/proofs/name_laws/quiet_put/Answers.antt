@@ -1,0 +1,5 @@
+use Rattle.dh_laws.proofs.PutLemmas as lemmas
+use Rattle.dh_laws.proofs.name_laws.quiet_put.Goals as goal
+
+pub returns : goal.returns
+returns c = lemmas.quiet_put

@@ -1,0 +1,9 @@
+pub mod Classes
+pub mod Replies
+pub mod Tops
+pub mod Names
+pub mod Puts
+pub mod Runs
+pub mod Purge
+pub mod CallsDone
+pub mod Repeats

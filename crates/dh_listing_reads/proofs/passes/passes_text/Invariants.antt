@@ -1,8 +1,0 @@
-use Rattle.std.proofs.Common.{◌≡◌, ◌++◌, length, map, take}
-use Rattle.std.specs.Prelude.{string_bytes}
-use Rattle.dh_listings.specs.ListingTexts.{listed_head, rows_text}
-use Rattle.dh_listing_reads.specs.RecordRows as rows
-use Rattle.dh_listing_reads.proofs.passes.passes_text.Given as goal
-
-abbrev pub invariant-loop-row : goal.invariant-loop-row
-invariant-loop-row l = string_bytes l.out ≡ listed_head (length l.passes) ++ rows_text (map (rows.of_pass l.grants) (take l.row-index l.passes))

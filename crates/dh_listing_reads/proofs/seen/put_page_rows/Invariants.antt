@@ -1,6 +1,0 @@
-use Rattle.std.proofs.Common.{◌≡◌, ◌++◌, map, take}
-use Rattle.dh_listing_reads.specs.RecordRows.{of_seen_size}
-use Rattle.dh_listing_reads.proofs.seen.put_page_rows.Given as goal
-
-abbrev pub invariant-loop-page : goal.invariant-loop-page
-invariant-loop-page l = l.rows.items ≡ l.initial.rows.items ++ map (of_seen_size l.slug l.lang) (take l.page-index l.sizes)

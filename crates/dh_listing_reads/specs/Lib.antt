@@ -1,3 +1,0 @@
-pub mod RecordRows
-pub mod Listings
-pub mod Inventory

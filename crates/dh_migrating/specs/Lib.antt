@@ -1,2 +1,0 @@
-pub mod OldPasses
-pub mod Converting

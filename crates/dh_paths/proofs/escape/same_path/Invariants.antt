@@ -1,7 +1,0 @@
-use Rattle.std.proofs.Common.{◌≡◌, ◌↔◌}
-use Rattle.percent_encoding.specs.Iter.{decoded_bytes}
-use Rattle.dh_paths.specs.Escapes.{unescaped}
-use Rattle.dh_paths.proofs.escape.same_path.Given as goal
-
-abbrev pub invariant-loop-byte : goal.invariant-loop-byte
-invariant-loop-byte l = (unescaped l.text ≡ l.path) ↔ (decoded_bytes l.byte-iterator ≡ l.rest)

@@ -1,5 +1,0 @@
-use Rattle.dh_paths.proofs.HostForms.{host_of-law}
-use Rattle.dh_paths.proofs.laws.host_part_is_name_and_port.Goals as goal
-
-pub returns : goal.returns
-returns c = host_of-law

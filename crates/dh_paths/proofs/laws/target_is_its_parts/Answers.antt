@@ -1,5 +1,0 @@
-use Rattle.dh_paths.proofs.TargetForms.{target_of-law}
-use Rattle.dh_paths.proofs.laws.target_is_its_parts.Goals as goal
-
-pub returns : goal.returns
-returns c = target_of-law

@@ -1,4 +1,0 @@
-pub mod Escapes
-pub mod Places
-pub mod Targets
-pub mod Forms

@@ -1,7 +1,0 @@
-pub mod AnsweredKey
-pub mod Planned
-pub mod Questions
-pub mod Asking
-pub mod Edits
-pub mod Knowing
-pub mod Plans

@@ -1,6 +1,0 @@
-//! What pushes decide.
-#![tactic(auto)]
-
-mod pushes;
-
-pub use pushes::push;

@@ -1,0 +1,5 @@
+pub mod SeenProject
+pub mod Reads
+pub mod Bodies
+pub mod Statuses
+pub mod Wire

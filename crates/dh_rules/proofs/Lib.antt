@@ -1,3 +1,0 @@
-pub mod ApplyLemmas
-pub mod FoundLemmas
-pub mod TextLemmas

@@ -1,5 +1,0 @@
-use Rattle.dh_rules.proofs.ApplyLemmas.{MarksAfter}
-use Rattle.dh_rules.proofs.applied.apply.Given as goal
-
-abbrev pub invariant-loop-i : goal.invariant-loop-i
-invariant-loop-i l = MarksAfter l.rules l.i l.fresh l.marks

@@ -1,5 +1,0 @@
-use Rattle.dh_rules.proofs.TextLemmas.{pattern_text-injective}
-use Rattle.dh_rules.proofs.laws.patterns_differ_in_text.Goals as goal
-
-pub returns : goal.returns
-returns c = pattern_text-injective

@@ -1,0 +1,13 @@
+pub mod DueLemmas
+pub mod PutLemmas
+pub mod SoundLemmas
+pub mod RightLemmas
+pub mod KeptLemmas
+pub mod RouteLemmas
+pub mod RenewedLemmas
+pub mod LookupLemmas
+pub mod DefaultLemmas
+pub mod HighestLemmas
+pub mod RowLemmas
+pub mod NamingLemmas
+pub mod HostLemmas

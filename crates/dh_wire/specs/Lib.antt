@@ -1,4 +1,0 @@
-pub mod Reads
-pub mod Bodies
-pub mod Statuses
-pub mod Wire
