@@ -1,4 +1,4 @@
-//! The program: its words, over a file, memory or a running server; how it ends.
+//! The program: its words, over a file, memory or a running server.
 #![tactic(auto)]
 
 mod lists;
