@@ -17,6 +17,8 @@ What clashes is told, and then nothing is changed: a module of src/, a file of s
 or a wrong body that two parts of a room have; a file of proofs/ that differs from a module of src/ in case alone; a file of
 specs/ or a `ghost use` that would cite its own crate's proofs/; a chain of crates in a circle. RENAMED solves them, a line each.
 
+First of all the modules of LOWERED go into their lower crates; a plan is made of a copy in which they have.
+
 Run it over a commit with nothing else to be committed: what it did is then `git diff`. The last lines say what a human
 has to look at.
 """
@@ -26,6 +28,7 @@ import re
 import shutil
 import subprocess
 import sys
+import tempfile
 from collections import defaultdict, namedtuple
 from pathlib import Path
 
@@ -37,43 +40,43 @@ Room = namedtuple("Room", "name parts says")
 # stop), its row in docs/layers.md and its line in the README's map.
 ROOMS = [
     Room("dh_texts", ["dh_texts", "dh_paths"], "checked texts, slugs and numbers; targets, addresses, hosts and escapes"),
-    Room("dh_ports", ["dh_ports"], "where bytes come from and go to, bounded reading, and why a call gives nothing"),
+    Room("dh_ports", ["dh_ports"], "where bytes come from and go to, bounded reading, streams that no signal cuts, and why a call gives nothing"),
     Room("dh_versions", ["dh_versions", "dh_rules"], "versions: which are releases, `latest` and `stable`; the automation rules for new ones"),
-    Room("dh_redirects", ["dh_redirects", "dh_segments"], "redirects: their check, where one leads, and the first segment to find it by"),
-    Room("dh_reads", ["dh_seen", "dh_wire"], "a read, a project as its caller sees it, a reply and its bytes"),
-    Room("dh_reply", ["dh_reply"], "the reply to a read, over any `Lookup`"),
-    Room("dh_world", ["dh_world"], "what the host means: the world, what a caller sees, the step of each command"),
-    Room("dh_listings", ["dh_listings"], "the list words, and what they print of a world"),
-    Room("dh_laws", ["dh_classes", "dh_aliases", "dh_histories"], "laws over the definitions alone: classes of callers, their names, whole histories"),
+    Room("dh_redirects", ["dh_redirects", "dh_segments"], "redirects: their check, which paths one matches, where it leads, and the first segment to find it by"),
+    Room("dh_reads", ["dh_seen", "dh_wire"], "a read, a project as its caller sees it, and replies as bytes, the plain 404 among them"),
+    Room("dh_reply", ["dh_reply"], "the reply to a read, over any `Lookup`: a page, a redirect, or not found"),
+    Room("dh_world", ["dh_world"], "what the host means: the world, which versions a caller may see, the step of each command, the limits"),
+    Room("dh_listings", ["dh_listings"], "the list words (`list-pages` and others), what they print of a world, and what a terminal may be shown"),
+    Room("dh_laws", ["dh_classes", "dh_aliases", "dh_histories"], "laws of the definitions: classes of callers, the names that each has, whole histories"),
     Room("dh_reply_cache", ["dh_replies"], "replies that are kept in memory, by host, class, path and query"),
     Room("dh_page_cache", ["dh_page_cache"], "pages that are kept in memory, by host, version, language and path"),
-    Room("dh_commands", ["dh_checks", "dh_plans", "dh_pushes", "dh_decisions"], "a command checked and decided: its edits and its answer, or why it is refused"),
+    Room("dh_commands", ["dh_checks", "dh_plans", "dh_pushes", "dh_decisions"], "a command checked and decided, also where its retry key comes again: its edits and answer, or why it is refused"),
     Room("dh_rows", ["dh_rows"], "records of any kind in tables of `sqlite`: calls, and what a crash leaves"),
-    Room("dh_records", ["dh_records", "dh_schema"], "our records, the world that they spell, their constraints, how tables are made"),
+    Room("dh_records", ["dh_records", "dh_schema"], "our records and their tables: columns, types, how these are made; constraints, and the world that records spell"),
     Room("dh_constraints", ["dh_constraints"], "whether records in memory keep the constraints, and can be read again"),
     Room("dh_tables", ["dh_tables"], "`Tables`: transactions, and a typed call for each thing that is asked or changed"),
-    Room("dh_stored_names", ["dh_derived", "dh_class_names"], "stored aliases and routes: which are right, and which an edit leaves to renew"),
-    Room("dh_renewal", ["dh_renewal"], "stored aliases and routes made right, after an edit or all at once"),
+    Room("dh_stored_names", ["dh_derived", "dh_class_names"], "stored aliases and routes: what they have to be, and which an edit leaves to be renewed"),
+    Room("dh_renewal", ["dh_renewal"], "stored aliases and routes renewed, after an edit or all at once"),
     Room("dh_opening", ["dh_migrating", "dh_opening"], "`Tables` made in a database, opened in one that is ours, or converted from an older schema"),
-    Room("dh_view", ["dh_view", "dh_listing_reads"], "what a caller sees of the tables, as a `Lookup`, and what list words print"),
+    Room("dh_view", ["dh_view", "dh_listing_reads"], "what a caller sees of the tables, as a `Lookup`, and what list words print of them"),
     Room("dh_edits", ["dh_facts", "dh_edits"], "what a command has to know, looked up in the tables, and its edits, made there"),
     Room("dh_transactions", ["dh_transactions"], "a command as one transaction"),
     Room("dh_desk", ["dh_desk"], "`Desk`: commands, reads and lists over the tables; what a fault of the store closes"),
-    Room("dh_requests", ["dh_bodies", "dh_requests"], "HTTP requests, in pieces of any size, and the change that a JSON body asks for"),
+    Room("dh_requests", ["dh_bodies", "dh_requests"], "HTTP requests, read in pieces of any size, and the change that a JSON body asks for"),
     Room("dh_log", ["dh_log"], "the log: its lines, what of a request or an order they may tell, and which were lost"),
-    Room("dh_http", ["dh_http"], "one HTTP request over a desk: read, done and answered; the headline"),
-    Room("dh_lines", ["dh_word_tables", "dh_lines"], "what the words of a line ask for"),
-    Room("dh_script", ["dh_script"], "orders and scripts over a desk: what they do, print, and tell of refusals"),
-    Room("dh_control", ["dh_control"], "messages to a running server: made, done over a desk, answered, cut apart again"),
-    Room("dh_redirect_lists", ["dh_lists"], "the redirects of a list in CSV, or its first bad record"),
+    Room("dh_http", ["dh_http"], "one HTTP request over a desk: read, done, answered, and noted for the log; the headline"),
+    Room("dh_lines", ["dh_word_tables", "dh_lines"], "what the words of a line ask for, from a shell or a script"),
+    Room("dh_script", ["dh_script"], "scripts, read and run line by line, and single orders over a desk: what they do, print, and tell of refusals"),
+    Room("dh_control", ["dh_control"], "messages to a running server: made, done over a desk, answered, noted for the log, cut apart again"),
+    Room("dh_redirect_lists", ["dh_lists"], "lists of redirects, read from CSV, or the first bad record of one"),
     Room("dh_sample", ["dh_sample"], "the sample project in memory, and one request over it"),
     Room("dh_files", ["dh_files"], "files of records: made, opened, migrated, closed, and what is wrong with one"),
-    Room("dh_server", ["dh_server"], "connections, one after another, as calls of a desk; a server's life"),
+    Room("dh_server", ["dh_server"], "connections, one after another, as calls of a desk, each told to the log; a server's life"),
     Room("dh_sockets", ["dh_sockets"], "the control socket of a file: made, removed, and asked by a message"),
-    Room("dh_telling", ["dh_telling"], "how a run of the program ends, and how that is told"),
-    Room("dh_client", ["dh_client"], "what is run beside a server: sent to it, and told by its answer"),
+    Room("dh_telling", ["dh_telling"], "how a run of the program ends, and what is printed of it"),
+    Room("dh_client", ["dh_client"], "a run beside a server that has the file: its orders sent as messages, its end told by the answers"),
     Room("dh_running", ["dh_running"], "orders done over a desk, and a server run over a file"),
-    Room("docs_host", ["docs_host"], "the program: its words, over a file, memory or a running server; how it ends"),
+    Room("docs_host", ["docs_host"], "the program: its words, over a file, memory or a running server"),
     Room("test_crates", ["test_rules_and_redirects", "test_requests", "test_tables", "test_server"], "tests alone: what no input of the program can show, and the server over sockets"),
     Room("test_stops", ["test_stops"], "a test program: lines stopped at each call of the store, and lists of calls"),
 ]
@@ -90,6 +93,10 @@ MAP = [
     ("The program", ["dh_lines", "dh_script", "dh_control", "dh_redirect_lists", "dh_sample", "dh_files", "dh_server", "dh_sockets", "dh_telling", "dh_client", "dh_running", "docs_host"]),
     ("Tests", ["test_crates", "test_stops"]),
 ]
+
+# Modules that stand in a lower crate then, since what is below the program needs them: the crate, the module, the crate that gets it.
+# Such a module cites nothing but std and its own proofs.
+LOWERED = [("dh_server", "steady", "dh_ports")]
 
 # Rooms that split.py makes, where it was run.
 MAY_LACK = ["dh_telling", "dh_sockets", "dh_client", "dh_running"]
@@ -157,6 +164,14 @@ AFTER = [
     ("docs/ADD_A_COMMAND.md", "(`src/passes.rt`, `src/properties.rt`; of a push in `dh_commands`)", "(`src/passes.rt`, `src/properties.rt`, `src/pushes.rt`)"),
     ("docs/ADD_A_COMMAND.md", "`specs/Bodies.antt`, `specs/Fields.antt`), its path in `dh_requests` (`post_at`", "`specs/Bodies.antt`, `specs/BodyFields.antt`), its path there (`post_at`"),
     ("docs/PROOFS.md", "(`test_crates` 5.2, `test_crates` 3.2, `test_crates` 1.1 each)", "(of `test_crates`, as four crates)"),
+    # plants, which were tried over the parts
+    ("docs/PROOFS.md", "`dh_world`, `dh_commands`, `dh_requests`\\*, `dh_ports`, `dh_records`, `dh_constraints`",
+     "`dh_world`, `dh_commands` (its checks, plans and pushes), `dh_requests`\\*, `dh_ports`, `dh_records` (how tables are made), `dh_constraints`"),
+    ("docs/PROOFS.md", "Of `dh_stored_names`, `dh_renewal`, `dh_page_cache` and `dh_log` none was tried.",
+     "Of first segments (`dh_redirects`), word tables (`dh_lines`), the names of a class (`dh_stored_names`), `dh_renewal`, `dh_page_cache` and `dh_log` none was tried."),
+    ("docs/PROOFS.md", "- `docs_host`: a failure where another came which may come anyway; a line for standard error that is not told, since one is lost where memory is out; an `init`",
+     "- `dh_telling`, `dh_running`, `docs_host`: a failure where another came which may come anyway; a line for standard error that is not printed, since one is lost where memory is out\n- `docs_host`: an `init`"),
+    ("docs/PROOFS.md", "Of 45 more bodies of `docs_host` by hand 6 stand in its `mutants/`, refused", "Of 45 more bodies of the program by hand 6 stand in `mutants/`, refused"),
 ]
 
 # Documents for who works on the text, which get a folder of their own; those for users and for reviewers stay in docs/.
@@ -169,6 +184,10 @@ DRAFTS = [(f"{CONTRIBUTING}/README.md", "drafts/contributing.md")]
 # Texts of documents and tools that change with that, as they stand once all else is done: file, old, new (a regular expression
 # where the old text is one). Each is made where it stands once, and told where it does not.
 DOCUMENTS = [
+    ("README.md", "| which limit holds where |",
+     "| whether a caller may see a version | `may_see` in `crates/dh_world/src/visibility.rt`, `dh_world/specs/Visibility.antt` |\n"
+     "| when a read is answered 404, and by which bytes | `nothing_served` in `crates/dh_reply/src/respond.rt`; `host_not_found` and `head_bytes` in `dh_reads/src/statuses.rt`, `dh_reads/src/wire.rt` |\n"
+     "| which limit holds where |"),
     ("README.md", re.compile(r"    docs {17}PRIVACY\.md,.*\n(?: {25}.*\n)*"),
      "    docs                 for who runs it: operations.md, publish.md, recipes.md, SCRIPTS.md;\n"
      "                         for who reviews it: PROVED.md, PRIVACY.md\n"
@@ -178,14 +197,29 @@ DOCUMENTS = [
      "`.ci/run` is the gate. [Working on docs_host](docs/contributing/README.md) says how a crate is checked while you write, and which document has what.\n"),
     ("README.md", re.compile(r"By what its parts took it should take some .*?\(20\d\d-\d\d-\d\d\)\. It needs"),
      "On four quiet cores it should take 45 to 60 minutes ([what was measured](docs/contributing/PROOFS.md#costs)). It needs"),
-    ("README.md", "`.ci/run` all there is (`docs/contributing/PROOFS.md` says what costs how much).", "`.ci/run` all there is."),
+    ("README.md", "`tools/build` proves and builds the program, `.ci/run` all there is (`docs/contributing/PROOFS.md` says what costs how much).",
+     "as [in a fresh clone](#in-a-fresh-clone)."),
+    ("README.md", "`mutants.judged` names the crates whose edits were all tried.", "`mutants.judged` names the crates whose `mutants/` were all tried."),
+    ("docs/operations.md", "- `DOCS_STORE` in the environment names the file where no `--store FILE` is given.\n",
+     "- Without `--store` it serves the file that [`DOCS_STORE`](SCRIPTS.md) names.\n"),
     ("docs/contributing/PROOFS.md", "took 274 processor minutes in 130 minutes of wall time (2026-11-30), with",
      "took 274 processor minutes in 130 minutes of wall time (2026-11-30; on slower cores more than 312 in 152), with"),
     ("docs/contributing/DECISIONS.md", "some fifty crates ([which has what](layers.md))", "some forty crates ([which has what](layers.md))"),
+    ("docs/contributing/layers.md",
+     "**Honest.** A store is honest (`IsHonest`) while the disk has returned what was written and no fault has shut it. Under that premise a call on tables promises what it says of values. A desk promises it for a clean disk (`HasCleanDisk`), since an answer comes of an honest store alone (`live`); what a call does to the world (`WorldGoesBy`) is said of some world where a fault has shut the store.",
+     "**Honest.** To an honest store (`IsHonest`) a call on tables promises what it says of values. A desk promises it for a clean disk (`HasCleanDisk`), since an answer comes of an honest store alone (`live`). [`PROVED.md`](../PROVED.md) says both premises, and what is said of the world behind a fault (`WorldGoesBy`)."),
     ("tools/lint", r'docs/[^/]+\.md|(?:tests', r'docs/(?:[^/]+/)?[^/]+\.md|(?:tests'),
     ("tools/lint", "A document is README.md, docs/*.md, tests", "A document is README.md, docs/*.md, docs/*/*.md, tests"),
     ("tools/debian.py", r'r"docs/[^/]+\.md|README', r'r"docs/(?:[^/]+/)?[^/]+\.md|README'),
     ("tools/debian.py", 'put(f"{DOC}/{os.path.basename(name)}", data)', """put(f"{DOC}/{name.removeprefix('docs/')}", data)"""),
+]
+
+# Parts of documents that stand in another document then: the file, the part (its first group goes), what is left there; the other
+# file, the line that it goes before, and what stands in front of it there.
+PASSAGES = [
+    ("docs/operations.md", re.compile(r"To measure on your machine, in a clone with a built program \((`--quick`[^\n]*)\):\n\n(\| \| \|\n\|---\|---\|\n(?:\| `bench/[^\n]*\n)+)"),
+     "To measure on your machine take a clone: [what measures what](contributing/PROOFS.md#what-measures-what).\n",
+     "docs/contributing/PROOFS.md", "## Plants\n", "### What measures what\nIn a clone with a built program ({0}):\n\n{1}\n"),
 ]
 
 # A room is to have no more functions than this.
@@ -1243,6 +1277,15 @@ def documents(repo):
         else:
             said = old.pattern if isinstance(old, re.Pattern) else old
             repo.tell("hand", f"DOCUMENTS has a text that does not stand once in {file}: {said[:100]!r}")
+    for file, part, left, other, line, front in PASSAGES:
+        here, there = repo.root / file, repo.root / other
+        text, into = (it.read_text(encoding="utf-8") if it.is_file() else "" for it in (here, there))
+        found = list(part.finditer(text))
+        if len(found) == 1 and into.count(line) == 1:
+            here.write_text(text[: found[0].start()] + left + text[found[0].end() :], encoding="utf-8")
+            there.write_text(into.replace(line, front.format(*found[0].groups()) + line), encoding="utf-8")
+        else:
+            repo.tell("hand", f"PASSAGES has a part of {file} that does not stand once, or a line that {other} does not have once")
     moved = lambda it: named.sub(rf"{CONTRIBUTING}/\1", it) if named else it
     repo.said["hand"] = [moved(it) for it in repo.said.get("hand", [])]
 
@@ -1270,6 +1313,8 @@ def after(repo):
         text = path.read_text(encoding="utf-8") if path.is_file() else ""
         if text.count(old) == 1:
             path.write_text(text.replace(old, new), encoding="utf-8")
+            if "was tried" in old:
+                repo.said["hand"] = [it for it in repo.said.get("hand", []) if " was not said of " not in it]
             done = old.split("\n")[0][-60:]
             repo.said["hand"] = [it for it in repo.said.get("hand", []) if done not in it and not (f"is {new_name(new)} then" in it and f"{file}:" in it)]
         elif repo.is_whole:
@@ -1304,6 +1349,26 @@ def left_over(repo):
         for at, line in enumerate(text.split("\n"), 1):
             if pattern.search(line):
                 repo.tell("hand", f"{file}:{at}: names a crate that is gone: {line.strip()[:160]}")
+
+
+def lower(root):
+    """Moves the modules of LOWERED, and takes their old crate in crates.txt from whoever names it no more. Gives what was told, and the
+    crates whose .rt files are others then."""
+    import split
+
+    rt = lambda: {it: it.read_text(encoding="utf-8") for it in (root / "crates").rglob("*.rt") if "out" not in it.parts}
+    before, split.MODULES = rt(), [it for it in LOWERED if (root / "crates" / it[0] / "src" / f"{it[1]}.rt").is_file()]
+    split.move_modules(root)
+    named = namedtuple("Checkout", "root")(root)
+    lines = (root / "crates.txt").read_text(encoding="utf-8").split("\n")
+    for crate, _, _ in split.MODULES:
+        for at, line in enumerate(lines):
+            name, colon, libraries = line.partition(":")
+            if colon and crate in libraries.split() and not libraries_of(named, name.split()[0], {crate}):
+                lines[at] = f"{name}: " + " ".join(it for it in libraries.split() if it != crate)
+    (root / "crates.txt").write_text("\n".join(lines), encoding="utf-8")
+    after = rt()
+    return split.told, {it.relative_to(root / "crates").parts[0] for it in before.keys() | after.keys() if before.get(it) != after.get(it)}
 
 
 def chain_of(repo):
@@ -1357,7 +1422,24 @@ def main(words):
     if unknown:
         print(f"move.py: ROOMS has no {', '.join(sorted(unknown))}", file=sys.stderr)
         return 2
-    repo = Repository(given.repository, only if given.only else [])
+    root, lowered, told = Path(given.repository).resolve(), set(), []
+    with tempfile.TemporaryDirectory() as copy:
+        if not given.only and (given.plan or given.chain):
+            for it in ("crates", "crates.txt", "README.md", "docs"):
+                if (root / it).is_dir():
+                    shutil.copytree(root / it, Path(copy) / it, ignore=shutil.ignore_patterns("out"))
+                elif (root / it).is_file():
+                    shutil.copy(root / it, copy)
+            root = Path(copy)
+        if not given.only:
+            told, lowered = lower(root)
+        return arranged(given, only, root, told, lowered)
+
+
+def arranged(given, only, root, told, lowered):
+    repo = Repository(root, only if given.only else [])
+    for it in told:
+        repo.tell("hand", it)
     if given.only and not only:
         repo.rooms = {it: Room(it, [it], "") for it in repo.crates}
         repo.room_of = {it: it for it in repo.crates}
@@ -1376,7 +1458,7 @@ def main(words):
         print(f"{len(repo.crates)} crates become {len(repo.rooms)}")
         report(repo)
         return 0
-    changed = move(repo)
+    changed = move(repo) | {repo.room_of[it] for it in lowered}
     order, below = crates_txt(repo)
     layers(repo, order, below)
     if not given.only or "heads" in given.only:

@@ -68,7 +68,7 @@ def moved(root, commit, folder):
         if ended.returncode:
             return False
         git(folder, "add", "-A")
-        git(folder, "commit", "-qm", words[0])
+        git(folder, "commit", "-q", "--allow-empty", "-m", words[0])
     new = found(folder, before)
     for name, lines in new.items():
         # without the place, which is another one
@@ -128,7 +128,7 @@ def quiet_move(root, commit, folder):
             print(f"  {words[0]} over the base: {(ended.stdout + ended.stderr).strip()[-400:]}")
             return False
         git(folder, "add", "-A")
-        git(folder, "commit", "-qm", words[0])
+        git(folder, "commit", "-q", "--allow-empty", "-m", words[0])
     return True
 
 

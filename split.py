@@ -5,7 +5,8 @@ usage: split.py REPOSITORY
 
 Run it before move.py, in a clean checkout. First a few items go into files of their own (ITEMS), since they close a circle of
 modules; then each module, file of specs/ and lemma file goes into the crate that CRATES gives it, with the proofs of its functions
-and its wrong bodies; the rest stays in docs_host. What the tables name and the checkout has not is passed over and told.
+and its wrong bodies; the rest stays in docs_host. What the tables name and the checkout has not is passed over and told. Where it was
+done before, nothing is done.
 """
 import re
 import subprocess
@@ -625,6 +626,9 @@ def main(words):
         print(__doc__.strip(), file=sys.stderr)
         return 2
     root = Path(words[0]).resolve()
+    if (root / "crates" / CRATES[0].name).is_dir():
+        print(f"{PROGRAM} is in parts already: nothing is done")
+        return 0
     move_modules(root)
     split(root)
     for name in [*(it.name for it in CRATES), PROGRAM]:
