@@ -25,5 +25,5 @@ def look():
 threading.Thread(target=look, daemon=True).start()
 status = ran.wait(); done.set()
 used = resource.getrusage(resource.RUSAGE_CHILDREN)
-print(f"TOOK {' '.join(sys.argv[1:])} in {os.path.relpath(os.getcwd(), '/srv/h')}: wall {time.time()-begun:.0f} s, processor {used.ru_utime+used.ru_stime:.0f} s, one process {used.ru_maxrss/1e6:.2f} GB, all {most[0]/1e9:.2f} GB, status {status}", flush=True)
+print(f"TOOK {' '.join(sys.argv[1:])} in {os.path.basename(os.getcwd())}: wall {time.time()-begun:.0f} s, processor {used.ru_utime+used.ru_stime:.0f} s, one process {used.ru_maxrss/1e6:.2f} GB, all {most[0]/1e9:.2f} GB, status {status}", flush=True)
 sys.exit(status)
