@@ -3,6 +3,7 @@ use Rattle.std.proofs.Common.{◌≡◌, ◌⊎◌, ℕ, inl, inr, true, false, 
 use Rattle.std.proofs.lemmas.Bool.{cases_Bool}
 use Rattle.std.proofs.lemmas.List.{map-append}
 use Rattle.sqlite_trees.specs.declared.store.Store.{Ghosts}
+use Rattle.sqlite.specs.Held.{Held}
 use Rattle.dh_ports.specs.declared.fault.Fault.{Fault}
 use Rattle.dh_schema.specs.InTurn.{lasts_none, lasts_on}
 use Rattle.dh_wire.specs.declared.reply.Read.{Read}
@@ -18,7 +19,7 @@ use Rattle.dh_histories.specs.declared.call.Call.TheVariants.{Act, Ask}
 use Rattle.dh_histories.specs.CallsDone.{IsCallDone, AreCallsDone, outcome_of, outcome_of_read, calls_left, outcomes_left}
 use Rattle.dh_histories.specs.Runs.{reply_in}
 use Rattle.dh_histories.proofs.CallLemmas.{run_before}
-use Rattle.dh_desk.specs.Desk.{HasCleanDisk, IsHonest, WorldGoesBy, Standing, state, world}
+use Rattle.dh_desk.specs.Desk.{AnswersHonestly, HasCleanDisk, IsHonest, WorldGoesBy, Standing, state, world}
 use Rattle.dh_desk.specs.DeskRuns.{DoesCall, DoesCalls, DoesWhileOpen, IsRunTo, IsDeskRun, is_answered, is_faulted, unanswered}
 use Rattle.dh_desk.proofs.Moving.{WorldGoesBy-refl, WorldGoesBy-trans, goes_clean}
 
@@ -41,9 +42,11 @@ pub act_done
 act_done before after command call answer outcome step told is = subst (λ x. IsCallDone before x after outcome) (sym is) (answer, step, told)
 
 -- an honest store alone accepts a command
-pub applied_live : {P : Type 0} (answer : Result Answer Refusal) (outcome : Outcome) → OnOk answer P → outcome ≡ outcome_of answer → is_answered outcome ≡ true → P
-applied_live (Ok a) outcome live told is = live
-applied_live (Err e) outcome live told is = absurd (true≢false (sym is ∙ ap is_answered told))
+pub applied_live
+    : {S : Type 0} (g : Ghosts S) (h : Held S) (answer : Result Answer Refusal) (outcome : Outcome)
+    → AnswersHonestly g h answer → outcome ≡ outcome_of answer → is_answered outcome ≡ true → IsHonest g h
+applied_live g h (Ok a) outcome honest told is = honest
+applied_live g h (Err e) outcome honest told is = absurd (true≢false (sym is ∙ ap is_answered told))
 
 -- and answers a read
 pub replied_live : {P : Type 0} (answer : Result Reply Fault) (outcome : Outcome) → OnOk answer P → outcome ≡ outcome_of_read answer → is_answered outcome ≡ true → P

@@ -1,12 +1,10 @@
 -- What calls do to the world of a desk, as far as it is known, one after another.
 use Rattle.std.proofs.Common.{◌≡◌, ◌⊎◌, inl, inr, Bool, true, false, Result, Ok, Err, IfOk, OnOk, refl, sym, subst, ◌∙◌}
-use Rattle.std.specs.Prelude.{IfErr}
 use Rattle.std.proofs.lemmas.Bool.{cases_Bool}
 use Rattle.sqlite_trees.specs.declared.store.Store.{Ghosts}
 use Rattle.dh_schema.specs.InTurn.{lasts_none, lasts_on}
-use Rattle.dh_desk.specs.Desk.{HasCleanDisk, IsHonest, IsWorldOf, KeepsFaults, Standing, WorldGoesBy, state, world}
+use Rattle.dh_desk.specs.Desk.{AnswersHonestly, HasCleanDisk, IsHonest, IsWorldOf, KeepsFaults, Standing, WorldGoesBy, state, world}
 use Rattle.dh_world.specs.World.{World}
-use Rattle.dh_world.specs.CheckResults.{IsFault}
 use Rattle.dh_world.specs.Step.{IsStep}
 use Rattle.dh_world.specs.declared.answer.Answer.{Answer}
 use Rattle.dh_world.specs.declared.command.Command.{Command}
@@ -92,12 +90,12 @@ module _ {S : Type 0} {g : Ghosts S} where
   read_goes_from inside a b r Fact is lasts live value same =
       subst (λ d. WorldGoesBy g d b (λ before after. (after ≡ before) × IfOk r (Fact before))) is (read_goes inside b r Fact lasts live value same)
 
-  -- a command, which an honest store alone accepts, and refuses unless for a fault
+  -- a command, whose answer comes of an honest store, or is a fault of the store
   pub step_goes
       : (a b : Standing S) (c : Command) (r : Result Answer Refusal) → KeepsFaults g a.tables b.tables
-      → (HasCleanDisk (state g b.tables) → OnOk r (IsHonest g b.tables)) → (HasCleanDisk (state g b.tables) → IfErr r (λ e. IsFault e ⊎ IsHonest g b.tables))
+      → (HasCleanDisk (state g b.tables) → AnswersHonestly g b.tables r)
       → (IsHonest g b.tables → IsStep (world g a) (world g b) c r) → WorldGoesBy g a b (λ before after. IsStep before after c r)
-  step_goes a b c r lasts live told step = record { lasts = lasts; moves = λ clean before known. go r before known (live clean) (told clean) step }
+  step_goes a b c r lasts honest step = record { lasts = lasts; moves = λ clean before known. go r before known (honest clean) step }
     where
       Goes : Result Answer Refusal → World → Type 0
       Goes r before = (after : World) × IsStep before after c r × IsWorldOf g b after
@@ -106,15 +104,15 @@ module _ {S : Type 0} {g : Ghosts S} where
       at r before known honest it = (world g b, subst (λ w. IsStep w (world g b) c r) (sym (known (lasts.was honest))) it, λ _. refl)
 
       go : (r : Result Answer Refusal) (before : World) → IsWorldOf g a before
-          → OnOk r (IsHonest g b.tables) → IfErr r (λ e. IsFault e ⊎ IsHonest g b.tables) → (IsHonest g b.tables → IsStep (world g a) (world g b) c r) → Goes r before
-      go (Ok x) before known honest told step = at (Ok x) before known honest (step honest)
-      go (Err e) before known live (inl fault) step = (before, (refl, inl (inl fault)), λ honest. known (lasts.was honest) ∙ sym (step honest).0)
-      go (Err e) before known live (inr honest) step = at (Err e) before known honest (step honest)
+          → AnswersHonestly g b.tables r → (IsHonest g b.tables → IsStep (world g a) (world g b) c r) → Goes r before
+      go (Ok x) before known honest step = at (Ok x) before known honest (step honest)
+      go (Err e) before known (inl store) step = (before, (refl, inl (inl (inl store))), λ honest. known (lasts.was honest) ∙ sym (step honest).0)
+      go (Err e) before known (inr honest) step = at (Err e) before known honest (step honest)
 
   -- the same, of a desk that is looked into
   pub step_goes_from
       : (inside a b : Standing S) (c : Command) (r : Result Answer Refusal) → inside ≡ a → KeepsFaults g inside.tables b.tables
-      → (HasCleanDisk (state g b.tables) → OnOk r (IsHonest g b.tables)) → (HasCleanDisk (state g b.tables) → IfErr r (λ e. IsFault e ⊎ IsHonest g b.tables))
+      → (HasCleanDisk (state g b.tables) → AnswersHonestly g b.tables r)
       → (IsHonest g b.tables → IsStep (world g inside) (world g b) c r) → WorldGoesBy g a b (λ before after. IsStep before after c r)
-  step_goes_from inside a b c r is lasts live told step =
-      subst (λ d. WorldGoesBy g d b (λ before after. IsStep before after c r)) is (step_goes inside b c r lasts live told step)
+  step_goes_from inside a b c r is lasts honest step =
+      subst (λ d. WorldGoesBy g d b (λ before after. IsStep before after c r)) is (step_goes inside b c r lasts honest step)

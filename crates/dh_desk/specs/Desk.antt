@@ -1,18 +1,22 @@
 -- A desk, and the world of its tables.
-use Rattle.std.specs.Prelude.{◌≡◌, ℕ, Bool, true, false, Option, Result, Err, IfErr, refl}
+use Rattle.std.specs.Prelude.{◌≡◌, ◌⊎◌, ℕ, Bool, true, false, Option, Result, Ok, Err, IfErr, OnOk, OnErr, refl}
 use Rattle.std.specs.Coded.{Coded, code_by, coded×, coded_bool, coded_ℕ}
 use Rattle.sqlite_trees.specs.declared.store.Store.{Ghosts}
 use Rattle.sqlite.specs.Held.{Held, held_code}
+use Rattle.dh_rows.specs.Calls.{LeavesCommitted, LeavesNoMore}
 use Rattle.dh_records.specs.Lists.{world_of}
 use Rattle.dh_replies.specs.Kept.{AreRepliesRight}
 use Rattle.dh_replies.specs.declared.replies.Replies.{Replies}
-use Rattle.dh_tables.specs.Going.{records}
+use Rattle.dh_tables.specs.Going.{IsOver, records}
+use Rattle.dh_transactions.specs.Crashes.{LeavesEither}
+use Rattle.dh_world.specs.CheckResults.{IsFault}
 use Rattle.dh_world.specs.World.{Text, World}
 use Rattle.dh_world.specs.Reads.{host_named, caller_named}
 use Rattle.dh_world.specs.Seen.{veil}
 use Rattle.dh_world.specs.declared.answer.Answer.{Answer}
 use Rattle.dh_world.specs.declared.refusal.Refusal.{Refusal}
-use Rattle.dh_world.specs.declared.refusal.Refusal.TheVariants.{Store, OutOfMemory}
+use Rattle.dh_world.specs.declared.command.Command.{Command}
+use Rattle.dh_world.specs.declared.refusal.Refusal.TheVariants.{Store}
 -- definitions of other crates that the clauses of a desk cite
 pub use Rattle.dh_histories.specs.Runs.{reply_in}
 pub use Rattle.sqlite.specs.Held.{state}
@@ -39,6 +43,12 @@ standing_code code =
 abbrev pub is_fault : Result Answer Refusal → Bool
 is_fault (Err Store) = true
 is_fault _ = false
+
+-- A fault of the store closes the desk, and nothing else does; a closed desk answers one, and stays as it is. `failed` says
+-- whether the result is one.
+pub record ClosesByFault {S R : Type 0} (old new : Standing S) (result fault : R) (failed : Bool) : Type 0 where
+  pub closed : old.closed ≡ true → (result ≡ fault) × (new ≡ old)
+  pub closes : new.closed ≡ failed
 
 -- the world that holds nothing but what the caller sees under the host
 abbrev pub veil_of : World → Text → Option Text → ℕ → World
@@ -76,7 +86,27 @@ module _ {S : Type 0} (g : Ghosts S) where
   abbrev pub IsSure : Bool → Held S → Type 0
   IsSure sure h = sure ≡ true → HasCleanDisk (state g h) → IsHonest g h
 
-  -- out of memory is told of an open store alone
-  abbrev pub TellsMemory : Held S → Result Answer Refusal → Type 0
-  TellsMemory h result =
-      HasCleanDisk (state g h) → IfErr result (λ e. e ≡ OutOfMemory → IsHonest g h)
+  -- the answer comes of an honest store, or is a fault of the store
+  abbrev pub AnswersHonestly : Held S → Result Answer Refusal → Type 0
+  AnswersHonestly h (Ok answer) = IsHonest g h
+  AnswersHonestly h (Err e) = (e ≡ Store) ⊎ IsHonest g h
+
+  -- How a desk stands after a command.
+  pub record StandsAfter (old new : Standing S) (result : Result Answer Refusal) : Type 0 where
+    pub closes : ClosesByFault old new result (Err Store) (is_fault result)
+    pub honest : HasCleanDisk (state g new.tables) → AnswersHonestly new.tables result
+    -- no transaction is open, but after a fault
+    pub outside : IsHonest g new.tables → IsOver g new.tables result
+    -- an accepted command leaves no reply that is kept, a refused one as many as before
+    pub empties : OnOk result (new.cached ≡ 0)
+    pub keeps : OnErr result (new.cached ≡ old.cached)
+
+  -- What a crash may leave after a command, while the disk returns what was written.
+  pub record CrashLeavesStep (old new : Held S) (command : Command) (result : Result Answer Refusal) : Type 0 where
+    -- where the store was honest before: what spells the records of then, or those after the command's one step
+    pub either : LeavesEither g old new command
+    -- after a refusal of the command's own, and of a store that was shut before: no more than before
+    pub refused : IfErr result (λ e. IsFault e ⊎ LeavesNoMore g old new)
+    pub shut : (state g old).is_open ≡ false → LeavesNoMore g old new
+    -- where the store is honest: what is committed
+    pub left : IsHonest g new → LeavesCommitted g lists_of new

@@ -1,13 +1,11 @@
 //! The desk and its two calls.
-ghost use Rattle.std.specs.Prelude.{◌≡◌, ◌≤◌, ◌⊎◌, true, false, Err, IfOk, IfErr, OnOk, OnErr};
+ghost use Rattle.std.specs.Prelude.{◌≡◌, ◌≤◌, true, false, Err, IfOk, IfErr, OnOk};
 ghost use Rattle.std.specs.Option.{option_map};
 ghost use Rattle.dh_rows.specs.Calls.{KeepsCommitted, KeepsFaults, LeavesNoMore, LeavesCommitted};
-ghost use Rattle.dh_transactions.specs.Crashes.{LeavesEither};
 ghost use Rattle.dh_records.specs.Constraints.{AreSound};
 ghost use Rattle.dh_records.specs.Lists.{base_of};
 ghost use Rattle.dh_renewal.specs.Filling.{DerivesRows, IsLeft, LeavesDerived};
 ghost use Rattle.dh_schema.specs.Calling.{IsSettled};
-ghost use Rattle.dh_tables.specs.Going.{IsOver};
 ghost use Rattle.dh_transactions.specs.Steps.{IsOneTransaction};
 ghost use Rattle.dh_world.specs.CheckResults.{IsFault};
 ghost use Rattle.dh_world.specs.Reads as spec;
@@ -15,7 +13,7 @@ ghost use Rattle.dh_world.specs.Step.{IsStep};
 ghost use Rattle.dh_desk.specs.Desk.{StoreFaultHasCause, HasCleanDisk, IsHonest, IsRefused, last_records, lists_of};
 ghost use Rattle.dh_ports.specs.declared.fault.Fault.TheVariants as fault;
 ghost use Rattle.dh_replies.specs.declared.replies.TheConstants.{MOST_REPLIES};
-ghost use Rattle.dh_desk.specs.Desk.{IsKept, TellsMemory, WorldGoesBy, is_fault, reply_in, state, veil_of, world};
+ghost use Rattle.dh_desk.specs.Desk.{AnswersHonestly, ClosesByFault, CrashLeavesStep, IsKept, StandsAfter, WorldGoesBy, is_fault, reply_in, state, veil_of, world};
 
 mod listing;
 
@@ -116,9 +114,8 @@ fn run_or_ask_store<S: Alter>(
 ) -> Result<Answer, Refusal>
     requires { IsKept S.Store tables.old }
     ensures transacts { IsOneTransaction S.Store tables.old tables.new command.now result }
-    ensures open { TellsMemory S.Store tables.new result }
-    ensures told { HasCleanDisk (state S.Store tables.new)
-        → IfErr result (λ e. IsFault e ⊎ IsHonest S.Store tables.new) }
+    ensures honest { HasCleanDisk (state S.Store tables.new)
+        → AnswersHonestly S.Store tables.new result }
 {
     match undo_then_run(tables, alloc, command) {
         Err(Refusal::OutOfMemory) => Err(ask_store(tables)),
@@ -222,28 +219,8 @@ impl<S: Alter> Desk<S> {
     pub fn apply(&mut self, alloc: Global, command: &Command) -> Result<Answer, Refusal>
         ensures goes { WorldGoesBy S.Store self.old self.new
             (λ before after. IsStep before after command.now result) }
-        ensures step { IsHonest S.Store self.new.tables
-            → IsStep (world S.Store self.old) (world S.Store self.new) command.now result }
-        ensures outside { IsHonest S.Store self.new.tables
-            → IsOver S.Store self.new.tables result }
-        ensures left { IsHonest S.Store self.new.tables
-            → LeavesCommitted S.Store lists_of self.new.tables }
-        ensures crash { LeavesEither S.Store self.old.tables self.new.tables command.now }
-        ensures refused { IfErr result
-            (λ e. IsFault e ⊎ LeavesNoMore S.Store self.old.tables self.new.tables) }
-        ensures shut { (state S.Store self.old.tables).is_open ≡ false
-            → LeavesNoMore S.Store self.old.tables self.new.tables }
-        ensures live { HasCleanDisk (state S.Store self.new.tables)
-            → OnOk result (IsHonest S.Store self.new.tables) }
-        ensures told { HasCleanDisk (state S.Store self.new.tables)
-            → IfErr result (λ e. IsFault e ⊎ IsHonest S.Store self.new.tables) }
-        ensures open { TellsMemory S.Store self.new.tables result }
-        ensures closed { self.old.closed ≡ true
-            → (result ≡ Err Refusal.Store) × (self.new ≡ self.old) }
-        ensures closes { self.new.closed ≡ is_fault result }
-        ensures lasts { KeepsFaults S.Store self.old.tables self.new.tables }
-        ensures empties { OnOk result (self.new.cached ≡ 0) }
-        ensures keeps { OnErr result (self.new.cached ≡ self.old.cached) }
+        ensures stands { StandsAfter S.Store self.old self.new result }
+        ensures crash { CrashLeavesStep S.Store self.old.tables self.new.tables command.now result }
     {
         if self.closed {
             return Err(Refusal::Store);
@@ -291,9 +268,8 @@ impl<S: Alter> Desk<S> {
             → OnOk result (self.new.tables.in_transaction ≡ false) }
         ensures left { IsHonest S.Store self.new.tables
             → LeavesCommitted S.Store lists_of self.new.tables }
-        ensures closed { self.old.closed ≡ true
-            → (result ≡ Err Fault.Store) × (self.new ≡ self.old) }
-        ensures closes { self.new.closed ≡ spec.is_unanswered result }
+        ensures closes { ClosesByFault self.old self.new result (Err Fault.Store)
+            (spec.is_unanswered result) }
         ensures lasts { KeepsFaults S.Store self.old.tables self.new.tables }
     {
         if self.closed {

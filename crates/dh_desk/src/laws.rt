@@ -7,14 +7,18 @@ ghost use Rattle.dh_reply.specs.Replies.{reply_to};
 ghost use Rattle.dh_wire.specs.declared.reply.Reply.{Reply};
 ghost use Rattle.dh_ports.specs.declared.fault.Fault.{Fault};
 ghost use Rattle.dh_schema.specs.Calling.{StoreFaultHasCause};
+ghost use Rattle.dh_world.specs.declared.answer.Answer.{Answer};
 ghost use Rattle.dh_world.specs.declared.caller.Caller.{Caller};
+ghost use Rattle.dh_world.specs.declared.command.Command.{Command};
+ghost use Rattle.dh_world.specs.declared.refusal.Refusal.{Refusal};
+ghost use Rattle.dh_world.specs.Step.{IsStep};
 ghost use Rattle.dh_world.specs.World.{Text, World};
 ghost use Rattle.dh_world.specs.Seen.{seen, veil};
 ghost use Rattle.dh_world.specs.declared.outcome.Outcome.{Outcome};
 ghost use Rattle.dh_histories.specs.Purge.{IsFiled};
 ghost use Rattle.dh_histories.specs.declared.call.Call.{Call};
 ghost use Rattle.dh_records.specs.Lists.{Lists, world_of};
-ghost use Rattle.dh_desk.specs.Desk.{Standing};
+ghost use Rattle.dh_desk.specs.Desk.{IsHonest, Standing, WorldGoesBy, world};
 ghost use Rattle.dh_desk.specs.DeskRuns.{DoesWhileOpen, IsDeskRun};
 
 use sqlite::Alter;
@@ -36,6 +40,14 @@ pub fn memory_answers()
 /// In the world of a desk each version stands under its own slug, as `purge_law` wants it.
 pub fn worlds_are_filed()
     ensures { (lists : Lists) → IsFiled (world_of lists) }
+{}
+
+/// Where the store is honest behind a command, that was one step of the world of the desk's tables, or was refused and left it.
+pub fn commands_step<S: Alter>()
+    ensures { (old new : Standing S) (command : Command) (result : Result Answer Refusal)
+        → WorldGoesBy S.Store old new (λ before after. IsStep before after command result)
+        → IsHonest S.Store new.tables
+        → IsStep (world S.Store old) (world S.Store new) command result }
 {}
 
 /// While the disk returns what was written, calls over a desk are a run, once those that were set aside are taken out: also where

@@ -14,4 +14,4 @@ pub use desk::Desk;
 pub use dh_histories::{Call, done_is_run, purge_law, runs_answer_for_good};
 pub use dh_tables::Tables;
 pub use dh_world::{Answer, Command, CommandChange, Outcome, Pages, Refusal, UploadedPage};
-pub use laws::{calls_are_a_run, memory_answers, veiled_reply, worlds_are_filed};
+pub use laws::{calls_are_a_run, commands_step, memory_answers, veiled_reply, worlds_are_filed};

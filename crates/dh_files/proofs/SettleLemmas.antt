@@ -5,11 +5,10 @@ use Rattle.sqlite.specs.Effect.{Database}
 use Rattle.sqlite.specs.Held.{Held, state}
 use Rattle.sqlite.specs.State.{HasCleanDisk}
 use Rattle.dh_rows.specs.Calls.{IsHonest, committed}
-use Rattle.dh_records.specs.Constraints.{AreInOrder, KeepsConstraints}
 use Rattle.dh_schema.specs.Tables.{lists_of}
 use Rattle.dh_renewal.specs.Filling.{IsLeft}
 use Rattle.dh_renewal.proofs.SameBase.{same_sound}
-use Rattle.dh_opening.specs.Filling.{IsOpened}
+use Rattle.dh_opening.specs.Filling.{AreTakenUp, IsOpened}
 use Rattle.dh_ports.specs.declared.fault.Fault.TheVariants as below
 use Rattle.dh_opening.specs.declared.fault.TablesFault.{TablesFault}
 use Rattle.dh_opening.specs.declared.fault.TablesFault.TheVariants as tables
@@ -32,24 +31,20 @@ module _ {S : Type 0} (g : Ghosts S) (R : Database → Database → Type 0) (con
 pub served_after
     : {S : Type 0} (g : Ghosts S) (conn looked mid new : Held S)
     → (IsHonest g looked → IsHonest g conn × ((state g looked).now ≡ (state g conn).now))
-    → (HasCleanDisk (state g mid) → IsHonest g looked × IsHonest g mid × (mid.in_transaction ≡ false))
-    → (HasCleanDisk (state g mid) → IsOpened (state g looked).now (state g mid).committed)
-    → (HasCleanDisk (state g mid) → AreInOrder (committed g lists_of mid) × KeepsConstraints (committed g lists_of mid))
+    → (HasCleanDisk (state g mid) → AreTakenUp g looked mid IsOpened)
     → (HasCleanDisk (state g new) → IsLeft g mid new) → HasCleanDisk (state g new) → IsSettledBy g IsServed conn new
-served_after g conn looked mid new same opened brought sound left clean =
+served_after g conn looked mid new same taken left clean =
     let it = left clean in
-    let here = it.was.0 in
-    let was = same (opened here).0 in
-    let found = brought here in
-    let its = sound here in record {
+    let found = taken it.was.0 in
+    let was = same found.was in record {
       was = was.0;
       honest = it.honest;
       outside = it.outside;
       last = subst (λ (db : Database). IsServed db (state g new).committed) was.1 (record {
-        ours = found.0;
+        ours = found.brought.0;
         holds = it.holds;
-        keeps = (same_sound (committed g lists_of new) (committed g lists_of mid) it.derived.base (record { order = its.0; constraints = its.1 })).constraints;
-        base = it.derived.base ∙ found.1.base;
+        keeps = (same_sound (committed g lists_of new) (committed g lists_of mid) it.derived.base found.sound).constraints;
+        base = it.derived.base ∙ found.brought.1.base;
         right = it.derived.right;
       });
     }

@@ -7,8 +7,8 @@ use Rattle.sqlite.specs.State.{HasCleanDisk}
 use Rattle.dh_ports.specs.declared.fault.Fault.{Fault}
 use Rattle.dh_ports.specs.declared.fault.Fault.TheVariants as fault
 use Rattle.dh_ports.specs.Faults.{OnStore}
-use Rattle.dh_rows.specs.Calls.{MakesNoCommitInside, IsBlamed, IsHonest, IsRefused, Keep, KeepsFaults, LeavesNoMore, LeavesSeen, OnlyBegins, OnlyCommits, ShowsHonestly, whole}
-use Rattle.dh_records.specs.Constraints.{AreInOrder, KeepsConstraints}
+use Rattle.dh_rows.specs.Calls.{MakesNoCommitInside, IsBlamed, IsHonest, IsRefused, Keep, KeepsFaults, LeavesCommitted, LeavesNoMore, LeavesSeen, OnlyBegins, OnlyCommits, ShowsHonestly, whole}
+use Rattle.dh_records.specs.Constraints.{AreSound, KeepsConstraints}
 use Rattle.dh_schema.specs.InTurn.{blamed_before, lasts_none, lasts_on}
 use Rattle.dh_schema.specs.Tables.{HoldsTables, lists_of}
 use Rattle.dh_migrating.specs.Converting.{CarriesTo}
@@ -18,9 +18,10 @@ use Rattle.dh_opening.specs.declared.fault.TablesFault.TheVariants.{NotOurs, Old
 use Rattle.dh_opening.specs.declared.opening.Found.{Found}
 use Rattle.dh_opening.specs.declared.opening.Found.TheVariants.{Old, Ours}
 use Rattle.dh_opening.specs.Opening.{IsDerivedBy, IsFound, IsNumbered, IsOurs, OnFailed, OnNotOurs, OnOldSchema, JudgesTables}
-use Rattle.dh_opening.specs.Filling.{AreMadeAnew, BringsBy, IsAtRest, IsNothingChanged, IsOpened, LacksDerived, LeavesBrought, OpensTables}
+use Rattle.dh_opening.specs.Filling.{AreMadeAnew, BringsBy, HandsBackTables, HandsOutTables, IsAtRest, IsNothingChanged, IsOpened, LacksDerived, LeavesBrought, OpensTables}
 use Rattle.dh_opening.proofs.FillLemmas.{ours_brought}
 use Rattle.dh_opening.proofs.Looks.{on_failed}
+use Rattle.dh_opening.proofs.OpenLemmas.{on_not_ours, on_store_failed}
 use Rattle.dh_opening.proofs.Spelling.{lacks_anew}
 
 -- ---- in a transaction of its own
@@ -306,22 +307,19 @@ module _ {S : Type 0} {g : Ghosts S} {old new : Held S} {R : Database → Databa
   rests : IsAtRest g new × R (state g old).now (state g new).now
   rests = it.done (it.was clean) clean
 
-  pub is_last : lists_of (state g new).committed ≡ lists_of (state g new).now
-  is_last = ap lists_of (sym rests.0.settled)
-
   module _ (conn : Held S) (cleared : old ≡ record conn { step_limit = None }) where
-    pub is_open : IsHonest g conn × IsHonest g new × (new.in_transaction ≡ false)
-    is_open = (subst (IsHonest g) cleared (it.was clean), rests.0.honest, rests.0.outside)
+    was_open : IsHonest g conn
+    was_open = subst (IsHonest g) cleared (it.was clean)
 
     pub is_brought : R (state g conn).now (state g new).now
     is_brought = subst (λ (h : Held S). R (state g h).now (state g new).now) cleared rests.1
 
-    pub is_committed : R (state g conn).now (state g new).committed
+    is_committed : R (state g conn).now (state g new).committed
     is_committed = subst (λ (db : Database). R (state g conn).now db) rests.0.settled is_brought
 
     module _ (holds : HoldsTables (state g new).now) where
-      pub are_sound : KeepsConstraints (lists_of (state g new).now) → AreInOrder (lists_of (state g new).committed) × KeepsConstraints (lists_of (state g new).committed)
-      are_sound keep = subst (λ (db : Database). AreInOrder (lists_of db) × KeepsConstraints (lists_of db)) rests.0.settled (in_order (state g new).now holds, keep)
+      are_sound : KeepsConstraints (lists_of (state g new).now) → AreSound (lists_of (state g new).committed)
+      are_sound keep = subst (λ (db : Database). AreSound (lists_of db)) rests.0.settled (record { order = in_order (state g new).now holds; constraints = keep })
 
       pub keeps : Keep HoldsTables (state g new)
       keeps = record {
@@ -331,3 +329,36 @@ module _ {S : Type 0} {g : Ghosts S} {old new : Held S} {R : Database → Databa
         settled = λ _. rests.0.settled;
         unlimited = it.lasts.limit ∙ ap (λ (h : Held S). h.step_limit) cleared;
       }
+
+-- ---- what is handed out, and back
+
+module _ {S : Type 0} {g : Ghosts S} {old new : Held S} {R : Database → Database → Type 0} (conn : Held S) (cleared : old ≡ record conn { step_limit = None }) where
+  -- tables that R leads to, which hold records that keep the constraints
+  pub hands_out
+      : {N F : Type 0} → BringsBy g old new (Ok tt) R N F → ((before after : Database) → R before after → HoldsTables after × KeepsConstraints (lists_of after))
+      → (IsHonest g new → LeavesCommitted g lists_of new) → HandsOutTables g conn new R
+  hands_out brings kept left = record {
+    taken = λ clean.
+        let it = kept _ _ (is_brought brings clean conn cleared) in
+        record {
+          was = was_open brings clean conn cleared;
+          rests = (rests brings clean).0;
+          brought = is_committed brings clean conn cleared;
+          sound = are_sound brings clean conn cleared it.0 it.1;
+        };
+    left = left;
+    crash = subst (λ (h : Held S). LeavesBrought g h new R) cleared brings.crash;
+  }
+
+  -- a connection with the tables that were not taken up
+  pub hands_back
+      : (N F : Database → Type 0) (told : TablesFault) → BringsBy g old new (Err told) R (N (state g old).now) (F (state g old).now)
+      → HandsBackTables g conn new R (N (state g conn).now) (F (state g conn).now) told
+  hands_back N F told brings = record {
+    ours = λ clean is. subst (λ (h : Held S). N (state g h).now) cleared (on_not_ours (Unit {0}) _ told (brings.ours clean) is);
+    blamed = λ clean is.
+        on_store_failed (Unit {0}) _ told
+        (subst (λ (h : Held S). OnFailed {T = Unit {0}} (Err told) (IsBlamed g h new ⊎ F (state g h).now)) cleared (brings.told clean)) is;
+    back = λ honest. (subst (IsHonest g) cleared (brings.lasts.was honest), subst (λ (h : Held S). (state g new).committed ≡ (state g h).committed) cleared (brings.err honest));
+    crash = subst (λ (h : Held S). LeavesBrought g h new R) cleared brings.crash;
+  }

@@ -19,7 +19,7 @@ use Rattle.dh_migrating.specs.OldPasses.{IsOldPass, old_lists_of, old_passes, wi
 use Rattle.dh_migrating.specs.declared.old_pass.OldPassRow.{OldPassRow}
 use Rattle.dh_opening.specs.Opening.{AreKeptIn, IsDerivedBy, IsNumbered, IsOurs, MayDerive, StandFor, JudgesTables}
 use Rattle.dh_opening.specs.Filling.{IsFilled}
-use Rattle.dh_opening.specs.Migrating.{AreOldIn, IsMigrated, IsOld, IsShown}
+use Rattle.dh_opening.specs.Migrating.{AreOldIn, IsMigrated, IsOld}
 use Rattle.dh_opening.proofs.EachTable.{lists_told}
 use Rattle.dh_opening.proofs.FillLemmas.{old_brought}
 use Rattle.dh_opening.proofs.Spelling.{other_number}
@@ -95,10 +95,6 @@ module _ {S : Type 0} {g : Ghosts S} {a b : Held S} {T : Type 0} {P : Database �
 pub migrated_holds : (before after : Database) → IsMigrated before after → HoldsTables after × KeepsConstraints (lists_of after)
 migrated_holds before after (inl ours) = (ours.1.holds, ours.1.keeps)
 migrated_holds before after (inr old) = (old.1.holds, old.1.keeps)
-
-pub migrated_shown : (before after : Database) → IsMigrated before after → IsShown before (lists_of after)
-migrated_shown before after (inl ours) = (inl (ours.0, ours.1.base), ours.1.derived)
-migrated_shown before after (inr old) = (inr (old.0, old.1.base), old.1.derived)
 
 -- schema 1 is none of ours
 pub old_not_ours : (db : Database) → IsNumbered db 1 → ¬ IsOurs db

@@ -7,11 +7,12 @@ use Rattle.sqlite_trees.specs.declared.store.Store.{Ghosts}
 use Rattle.sqlite.specs.Effect.{Database}
 use Rattle.sqlite.specs.Held.{Held, state}
 use Rattle.sqlite.specs.State.{HasCleanDisk}
-use Rattle.dh_rows.specs.Calls.{IsBlamed, IsHonest, KeepsFaults, LeavesNoMore, LeavesTrees}
+use Rattle.dh_ports.specs.declared.fault.Fault.TheVariants as fault
+use Rattle.dh_rows.specs.Calls.{IsBlamed, IsHonest, KeepsFaults, LeavesCommitted, LeavesNoMore, LeavesTrees, committed}
 use Rattle.dh_rows.specs.Places.{StandsInSchema, rows_of}
-use Rattle.dh_records.specs.Constraints.{KeepsConstraints}
+use Rattle.dh_records.specs.Constraints.{AreSound, KeepsConstraints}
 use Rattle.dh_records.specs.Lists.{Lists, base_of}
-use Rattle.dh_schema.specs.Making.{added_tables, derived_tables}
+use Rattle.dh_schema.specs.Making.{CommitsNothing, added_tables, derived_tables}
 use Rattle.dh_schema.specs.Tables.{HoldsTables, lists_of}
 use Rattle.dh_opening.specs.declared.fault.TablesFault.{TablesFault}
 use Rattle.dh_opening.specs.declared.fault.TablesFault.TheVariants.{NotOurs, OldSchema, Failed}
@@ -103,3 +104,43 @@ module _ {S : Type 0} (g : Ghosts S) where
       pub numbered : HasCleanDisk (state g new) → OnOldSchema result (IsNumbered (state g old).now 1)
       -- where nothing is changed a crash leaves nothing more
       pub quiet : IsNothingChanged result (state g old).now → IsHonest g old → LeavesNoMore g old new
+
+    -- ---- what is handed to who asked for tables
+
+    -- Tables that R leads to from what was seen: the store was honest and is, no transaction is open, what is seen was committed,
+    -- and these records are in order and keep the constraints.
+    pub record AreTakenUp (R : Database → Database → Type 0) : Type 0 where
+      pub was : IsHonest g old
+      pub rests : IsAtRest new
+      pub brought : R (state g old).now (state g new).committed
+      pub sound : AreSound (committed g lists_of new)
+
+    -- What stands where tables are handed out that R leads to.
+    pub record HandsOutTables (R : Database → Database → Type 0) : Type 0 where
+      pub taken : HasCleanDisk (state g new) → AreTakenUp R
+      -- a crash of an honest store leaves what is committed
+      pub left : IsHonest g new → LeavesCommitted g lists_of new
+      pub crash : LeavesBrought R
+
+    -- What stands where the connection is handed back with this fault. N holds where the tables are told not to be ours; where F
+    -- holds, `Store` may be told of any store.
+    pub record HandsBackTables (R : Database → Database → Type 0) (N F : Type 0) (told : TablesFault) : Type 0 where
+      pub ours : HasCleanDisk (state g new) → told ≡ NotOurs → N
+      pub blamed : HasCleanDisk (state g new) → told ≡ Failed fault.Store → IsBlamed g old new ⊎ F
+      pub back : IsHonest g new → CommitsNothing g old new
+      pub crash : LeavesBrought R
+
+    -- What stands where an opening hands out tables: those that were ours.
+    pub record HandsOutOpened : Type 0 where
+      pub tables : HandsOutTables IsOpened
+      -- where nothing had to be made anew a crash leaves nothing more
+      pub quiet : ¬ LacksDerived (state g old).now → IsHonest g old → LeavesNoMore g old new
+
+    -- What stands where an opening hands the connection back with this fault.
+    pub record HandsBackUnopened (told : TablesFault) : Type 0 where
+      pub tables
+          : HandsBackTables IsOpened (¬ IsOurs (state g old).now × ¬ IsNumbered (state g old).now 1)
+          (LacksDerived (state g old).now) told
+      pub numbered : HasCleanDisk (state g new) → told ≡ OldSchema → IsNumbered (state g old).now 1
+      -- where nothing was changed a crash leaves nothing more
+      pub quiet : ChangesNothing told (state g old).now → IsHonest g old → LeavesNoMore g old new

@@ -7,14 +7,12 @@ use Rattle.sqlite.specs.Effect.{Database}
 use Rattle.sqlite.specs.Held.{Held, state}
 use Rattle.dh_rows.specs.Places.{records_of}
 use Rattle.dh_rows.specs.Shapes.{StandsAlone}
-use Rattle.dh_records.specs.Lists.{Lists, base_of}
-use Rattle.dh_schema.specs.Tables.{lists_of}
 use Rattle.dh_migrating.specs.Converting.{CanConvert}
 use Rattle.dh_migrating.specs.OldPasses.{old_pass_table, old_passes, old_lists_of, IsOldPass}
 use Rattle.dh_opening.specs.declared.fault.TablesFault.{TablesFault}
 use Rattle.dh_opening.specs.Opening.{AreKeptIn, IsNumbered, IsOurs, MayDerive, OnOldSchema, StandFor}
 use Rattle.dh_opening.specs.OurTables.{other_tables}
-use Rattle.dh_opening.specs.Filling.{BringsBy, IsBrought, IsOpened, KeepsDerived, LacksDerived, LeavesBrought}
+use Rattle.dh_opening.specs.Filling.{BringsBy, IsBrought, IsOpened, LacksDerived, LeavesBrought}
 
 -- The table of passes as schema 1 made it and our other tables stand alone, and the first can be dropped.
 pub record AreOldIn (schema : Schema) : Type 0 where
@@ -34,15 +32,8 @@ pub record IsOld (db : Database) : Type 0 where
 abbrev pub IsBehind : Database → Type 0
 IsBehind db = IsOld db ⊎ LacksDerived db
 
--- What migrated tables show: the records of tables that were ours, or those of tables of schema 1, each pass without an end; and
--- the derived records that were there.
-abbrev pub IsShown : Database → Lists → Type 0
-IsShown before lists =
-    ((IsOurs before × (base_of lists ≡ base_of (lists_of before)))
-    ⊎ (IsOld before × (base_of lists ≡ old_lists_of before)))
-    × KeepsDerived before lists
-
--- Tables of schema 2, with the records that were there, which keep the constraints.
+-- Tables of schema 2, with the records that were there, which keep the constraints: those of tables that were ours, or those of
+-- tables of schema 1, each pass without an end; and the derived ones that were there.
 abbrev pub IsMigrated : Database → Database → Type 0
 IsMigrated before after = IsOpened before after ⊎ (IsOld before × IsBrought (old_lists_of before) before after)
 

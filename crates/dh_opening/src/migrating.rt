@@ -4,20 +4,18 @@ ghost use Rattle.std.specs.Prelude.{◌≡◌, ◌≢◌, ◌⊎◌, false, List
 ghost use Rattle.sqlite.specs.Effect.{Database, IsDatabase};
 ghost use Rattle.sqlite.specs.Held.{state};
 ghost use Rattle.sqlite.specs.State.{HasCleanDisk};
-ghost use Rattle.dh_rows.specs.Calls.{MakesNoCommitInside, IsBlamed, IsHonest, KeepsFaults, LeavesCommitted, committed, seen_now};
+ghost use Rattle.dh_rows.specs.Calls.{MakesNoCommitInside, IsBlamed, IsHonest, KeepsFaults};
 ghost use Rattle.dh_records.specs.Codings.{passes};
-ghost use Rattle.dh_records.specs.Constraints.{AreInOrder, InOrder, KeepsConstraints};
-ghost use Rattle.dh_schema.specs.Making.{CommitsNothing};
-ghost use Rattle.dh_schema.specs.Tables.{lists_of};
+ghost use Rattle.dh_records.specs.Constraints.{InOrder};
 ghost use Rattle.dh_constraints.specs.Lists.{lists_in};
 ghost use Rattle.dh_migrating.specs.Converting.{CarriesTo, IsConverted, IsConvertible};
 ghost use Rattle.dh_migrating.specs.OldPasses.{old_lists_of};
 ghost use Rattle.dh_opening.specs.Opening.{IsDerivedBy, IsNumbered, IsOurs, OnFailed, OnNotOurs, OnOldSchema, JudgesTables};
-ghost use Rattle.dh_opening.specs.Filling.{IsAtRest, IsFilled};
+ghost use Rattle.dh_opening.specs.Filling.{HandsBackTables, HandsOutTables, IsAtRest, IsFilled};
 ghost use Rattle.dh_records.specs.declared.records.PageRow.{PageRow};
 ghost use Rattle.dh_records.specs.declared.records.RetryRow.{RetryRow};
 ghost use Rattle.dh_opening.specs.ThinPages.{made_whole};
-ghost use Rattle.dh_opening.specs.Migrating.{IsBehind, IsMigrated, IsOld, IsShown, LeavesMigrated, MigratesTables};
+ghost use Rattle.dh_opening.specs.Migrating.{IsBehind, IsMigrated, IsOld, LeavesMigrated, MigratesTables};
 
 use crate::fault::TablesFault;
 use crate::filling::{complete, fill};
@@ -142,28 +140,11 @@ pub fn migrate<S: Alter>(
     conn: Connection<S>,
 ) -> Result<Tables<S>, (TablesFault, Connection<S>)>
     requires { conn.in_transaction ≡ false }
-    ensures opened { IfOk result (λ t. HasCleanDisk (state S.Store t)
-        → IsHonest S.Store conn × IsHonest S.Store t × (t.in_transaction ≡ false)) }
-    ensures brought { IfOk result (λ t. HasCleanDisk (state S.Store t)
-        → IsMigrated (state S.Store conn).now (state S.Store t).committed) }
-    ensures shown { IfOk result (λ t. HasCleanDisk (state S.Store t)
-        → IsShown (state S.Store conn).now (seen_now S.Store lists_of t)) }
-    ensures last { IfOk result (λ t. HasCleanDisk (state S.Store t)
-        → committed S.Store lists_of t ≡ seen_now S.Store lists_of t) }
-    ensures sound { IfOk result (λ t. HasCleanDisk (state S.Store t)
-        → AreInOrder (committed S.Store lists_of t)
-        × KeepsConstraints (committed S.Store lists_of t)) }
-    ensures left { IfOk result (λ t. IsHonest S.Store t → LeavesCommitted S.Store lists_of t) }
-    ensures crash { IfOk result (λ t. LeavesMigrated S.Store conn t) }
-    ensures ours { IfErr result (λ e. HasCleanDisk (state S.Store e.1)
-        → e.0 ≡ TablesFault.NotOurs
-        → ¬ IsOurs (state S.Store conn).now × ¬ IsOld (state S.Store conn).now) }
+    ensures migrated { IfOk result (λ t. HandsOutTables S.Store conn t IsMigrated) }
+    ensures refused { IfErr result (λ e. HandsBackTables S.Store conn e.1 IsMigrated
+        (¬ IsOurs (state S.Store conn).now × ¬ IsOld (state S.Store conn).now)
+        (IsBehind (state S.Store conn).now) e.0) }
     ensures current { IfErr result (λ e. e.0 ≢ TablesFault.OldSchema) }
-    ensures told { IfErr result (λ e. HasCleanDisk (state S.Store e.1)
-        → e.0 ≡ TablesFault.Failed Fault.Store
-        → IsBlamed S.Store conn e.1 ⊎ IsBehind (state S.Store conn).now) }
-    ensures back { IfErr result (λ e. IsHonest S.Store e.1 → CommitsNothing S.Store conn e.1) }
-    ensures stop { IfErr result (λ e. LeavesMigrated S.Store conn e.1) }
 {
     let mut conn = conn;
     conn.set_step_limit(None);

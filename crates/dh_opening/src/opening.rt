@@ -1,19 +1,19 @@
 //! Our tables in a database: made where there is none of them, and opened where they stand.
 
-ghost use Rattle.std.specs.Prelude.{◌≡◌, ◌≢◌, ◌⊎◌, ◌↔◌, false, None, IfErr, IfOk, IsTrue};
+ghost use Rattle.std.specs.Prelude.{◌≡◌, ◌≢◌, ◌↔◌, false, None, IfErr, IfOk, IsTrue};
 ghost use Rattle.sqlite.specs.Held.{state};
 ghost use Rattle.sqlite.specs.State.{HasCleanDisk};
-ghost use Rattle.dh_rows.specs.Calls.{AreOurs, IsBlamed, IsHonest, LeavesCommitted, LeavesNoMore, committed, seen_now};
+ghost use Rattle.dh_rows.specs.Calls.{AreOurs, IsHonest, LeavesCommitted, committed, seen_now};
 ghost use Rattle.dh_records.specs.Codings as coding;
-ghost use Rattle.dh_records.specs.Constraints.{AreInOrder, InOrder, KeepsConstraints};
-ghost use Rattle.dh_records.specs.Lists.{Lists, base_of};
+ghost use Rattle.dh_records.specs.Constraints.{InOrder};
+ghost use Rattle.dh_records.specs.Lists.{Lists};
 ghost use Rattle.dh_schema.specs.Making.{CanMake, CommitsNothing, IsMade, no_lists};
 ghost use Rattle.dh_schema.specs.Tables.{HoldsTables, lists_of};
 ghost use Rattle.dh_constraints.specs.Lists.{lists_in};
 ghost use Rattle.dh_opening.specs.Opening.{AreKeptIn, AreLaid, HasDerived, IsDerivedBy, IsFound, IsNumbered, IsOurs, MayDerive, JudgesTables};
 ghost use Rattle.dh_opening.specs.OurTables.{other_tables};
 ghost use Rattle.dh_opening.specs.ThinPages.{AreKeptWhole};
-ghost use Rattle.dh_opening.specs.Filling.{ChangesNothing, IsOpened, KeepsDerived, LacksDerived, LeavesOpened, OpensTables};
+ghost use Rattle.dh_opening.specs.Filling.{HandsBackUnopened, HandsOutOpened, OpensTables};
 
 use crate::fault::TablesFault;
 use crate::filling::complete;
@@ -198,35 +198,8 @@ pub fn open<S: Alter>(
     conn: Connection<S>,
 ) -> Result<Tables<S>, (TablesFault, Connection<S>)>
     requires { conn.in_transaction ≡ false }
-    ensures opened { IfOk result (λ t. HasCleanDisk (state S.Store t)
-        → IsHonest S.Store conn × IsHonest S.Store t × (t.in_transaction ≡ false)) }
-    ensures brought { IfOk result (λ t. HasCleanDisk (state S.Store t)
-        → IsOpened (state S.Store conn).now (state S.Store t).committed) }
-    ensures seen { IfOk result (λ t. HasCleanDisk (state S.Store t)
-        → base_of (seen_now S.Store lists_of t) ≡ base_of (seen_now S.Store lists_of conn)) }
-    ensures derived { IfOk result (λ t. HasCleanDisk (state S.Store t)
-        → KeepsDerived (state S.Store conn).now (seen_now S.Store lists_of t)) }
-    ensures last { IfOk result (λ t. HasCleanDisk (state S.Store t)
-        → committed S.Store lists_of t ≡ seen_now S.Store lists_of t) }
-    ensures sound { IfOk result (λ t. HasCleanDisk (state S.Store t)
-        → AreInOrder (committed S.Store lists_of t)
-        × KeepsConstraints (committed S.Store lists_of t)) }
-    ensures left { IfOk result (λ t. IsHonest S.Store t → LeavesCommitted S.Store lists_of t) }
-    ensures quiet { IfOk result (λ t. ¬ LacksDerived (state S.Store conn).now
-        → IsHonest S.Store conn → LeavesNoMore S.Store conn t) }
-    ensures crash { IfOk result (λ t. LeavesOpened S.Store conn t) }
-    ensures ours { IfErr result (λ e. HasCleanDisk (state S.Store e.1)
-        → e.0 ≡ TablesFault.NotOurs
-        → ¬ IsOurs (state S.Store conn).now × ¬ IsNumbered (state S.Store conn).now 1) }
-    ensures old { IfErr result (λ e. HasCleanDisk (state S.Store e.1)
-        → e.0 ≡ TablesFault.OldSchema → IsNumbered (state S.Store conn).now 1) }
-    ensures told { IfErr result (λ e. HasCleanDisk (state S.Store e.1)
-        → e.0 ≡ TablesFault.Failed Fault.Store
-        → IsBlamed S.Store conn e.1 ⊎ LacksDerived (state S.Store conn).now) }
-    ensures back { IfErr result (λ e. IsHonest S.Store e.1 → CommitsNothing S.Store conn e.1) }
-    ensures kept { IfErr result (λ e. ChangesNothing e.0 (state S.Store conn).now
-        → IsHonest S.Store conn → LeavesNoMore S.Store conn e.1) }
-    ensures stop { IfErr result (λ e. LeavesOpened S.Store conn e.1) }
+    ensures opened { IfOk result (λ t. HandsOutOpened S.Store conn t) }
+    ensures refused { IfErr result (λ e. HandsBackUnopened S.Store conn e.1 e.0) }
 {
     let mut conn = conn;
     conn.set_step_limit(None);

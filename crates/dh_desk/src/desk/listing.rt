@@ -1,7 +1,7 @@
 //! Lists of what the tables hold, and of what a caller sees.
 ghost use Rattle.std.specs.Prelude.{◌≡◌, true, false, Err, IfOk, OnOk};
 ghost use Rattle.dh_ports.specs.declared.fault.Fault.TheVariants as fault;
-ghost use Rattle.dh_desk.specs.Desk.{HasCleanDisk, StoreFaultHasCause, IsHonest, IsKept, IsRefused, IsSure, KeepsFaults, WorldGoesBy, last_records, lists_of, state, world};
+ghost use Rattle.dh_desk.specs.Desk.{ClosesByFault, HasCleanDisk, StoreFaultHasCause, IsHonest, IsKept, IsRefused, IsSure, KeepsFaults, WorldGoesBy, last_records, lists_of, state, world};
 ghost use Rattle.dh_desk.specs.DeskLists.{is_unlisted};
 ghost use Rattle.dh_listings.specs.ListingTexts.{listing_text};
 ghost use Rattle.dh_records.specs.Lists.{world_of};
@@ -71,9 +71,8 @@ impl<S: Alter> Desk<S> {
             → OnOk result (self.new.tables.in_transaction ≡ false) }
         ensures left { IsHonest S.Store self.new.tables
             → LeavesCommitted S.Store lists_of self.new.tables }
-        ensures closed { self.old.closed ≡ true
-            → (result ≡ Err fault.Store) × (self.new ≡ self.old) }
-        ensures closes { self.new.closed ≡ is_unlisted result }
+        ensures closes { ClosesByFault self.old self.new result (Err fault.Store)
+            (is_unlisted result) }
         ensures lasts { KeepsFaults S.Store self.old.tables self.new.tables }
     {
         if self.closed {

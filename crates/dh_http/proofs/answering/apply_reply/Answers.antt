@@ -12,5 +12,5 @@ returns g c = record {
   noted =
       WorldGoesBy-weaker c.apply-outcome.ensures.goes
       (λ u v step. (c.apply-outcome.result, step, subst (λ refusal. NotesPost c.args.command.now refusal c.of_post.result) c.refusal_in.ensures c.of_post.ensures));
-  closed = λ is. (c.apply-outcome.ensures.closed is).1;
+  closed = λ is. (c.apply-outcome.ensures.stands.closes.closed is).1;
 }

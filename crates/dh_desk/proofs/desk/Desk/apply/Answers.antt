@@ -14,11 +14,11 @@ returns-then-self-clause-goes g c = WorldGoesBy-refl (λ w. (refl, inl (inl (inl
 pub returns-then-is_ok-clause-goes : goal.returns-then-is_ok-clause-goes
 returns-then-is_ok-clause-goes g c =
     let did = c.run_or_ask_store-answer.ensures.transacts in
-    step_goes_from _ _ _ c.args.command.now c.run_or_ask_store-answer.result c.self.view_is did.lasts did.live c.run_or_ask_store-answer.ensures.told
+    step_goes_from _ _ _ c.args.command.now c.run_or_ask_store-answer.result c.self.view_is did.lasts c.run_or_ask_store-answer.ensures.honest
     (λ honest. steps_world _ _ c.args.command.now c.run_or_ask_store-answer.result (did.steps honest))
 
 pub returns-else-is_ok-clause-goes : goal.returns-else-is_ok-clause-goes
 returns-else-is_ok-clause-goes g c =
     let did = c.run_or_ask_store-answer.ensures.transacts in
-    step_goes_from _ _ _ c.args.command.now c.run_or_ask_store-answer.result c.self.view_is did.lasts did.live c.run_or_ask_store-answer.ensures.told
+    step_goes_from _ _ _ c.args.command.now c.run_or_ask_store-answer.result c.self.view_is did.lasts c.run_or_ask_store-answer.ensures.honest
     (λ honest. steps_world _ _ c.args.command.now c.run_or_ask_store-answer.result (did.steps honest))

@@ -7,7 +7,7 @@ returns-in-Act-clause-done g c =
     WorldGoesBy-weaker c.apply.ensures.goes (λ u v step. act_done u v _ _ c.apply.result _ step c.commanded.ensures c.in-Act.is)
 
 pub returns-in-Act-clause-live : goal.returns-in-Act-clause-live
-returns-in-Act-clause-live g c clean = applied_live c.apply.result _ (c.apply.ensures.live clean) c.commanded.ensures
+returns-in-Act-clause-live g c clean = applied_live g.S.Store c.apply.new.self.tables c.apply.result _ (c.apply.ensures.stands.honest clean) c.commanded.ensures
 
 pub returns-in-Ask-clause-done : goal.returns-in-Ask-clause-done
 returns-in-Ask-clause-done g c =
