@@ -5,6 +5,7 @@ use Rattle.dh_wire.specs.declared.reply.Read.{Read}
 use Rattle.dh_wire.specs.declared.reply.Reply.{Reply}
 use Rattle.dh_requests.specs.declared.request.Request.{Request}
 use Rattle.dh_requests.specs.declared.request.Request.TheVariants as request
+use Rattle.dh_requests.proofs.Reads.{by_head}
 use Rattle.dh_requests.proofs.Requests.{one}
 use Rattle.dh_world.specs.World.{World}
 use Rattle.dh_http.specs.declared.fault.Done.{Done}
@@ -28,7 +29,7 @@ answered_as moment before after a b status text same h = subst (λ q. AnswersReq
 
 input_answered : (moment : ℕ) (before after : World) (input : List ℕ) (status : ℕ) (text : List ℕ) → AnswersSource moment (Some input) before after status text → AnswersRead moment before input text
 input_answered moment before after input status text (inl a) host pass read head is =
-    let b = answered_as moment before after a.0 (request.Read host pass read head) status text (one input a.0 (request.Read host pass read head) a.1 is) a.2 in
+    let b = answered_as moment before after a.0 (request.Read host pass read head) status text (one input a.0 (request.Read host pass read head) a.1 (by_head input host pass read head is)) a.2 in
     read_answered moment before after host pass read head status text b.0 b.1 b.2
 input_answered moment before after input status text (inr un) host pass read head is = inr (false, un.1.text_is)
 

@@ -4,8 +4,7 @@ use Rattle.std.specs.Prelude.{◌≡◌, ◌⊎◌, ℕ, Bool, List, Option, Res
 use Rattle.std.specs.Io.KnownBytes.{Appends}
 use Rattle.dh_wire.specs.Wire.{reply_bytes_of}
 use Rattle.dh_wire.specs.declared.reply.Read.{Read}
-use Rattle.dh_requests.specs.Request.{IsRequest}
-use Rattle.dh_requests.specs.declared.request.Request.TheVariants as request
+use Rattle.dh_requests.specs.ReadRequest.{IsReadRequest}
 use Rattle.dh_world.specs.World.{World}
 use Rattle.dh_world.specs.Reads.{caller_named}
 use Rattle.dh_world.specs.Seen.{seen, veil}
@@ -27,7 +26,7 @@ IsUnavailable text = (head : Bool) × (text ≡ reply_bytes_of unavailable head)
 abbrev pub AnswersRead : ℕ → World → List ℕ → List ℕ → Type 0
 AnswersRead moment world input text =
     (host pass : Option (List ℕ)) (read : Read) (head : Bool)
-    → IsRequest input (request.Read host pass read head)
+    → IsReadRequest input host pass read head
     → (text ≡ read_bytes moment world host pass read head) ⊎ IsUnavailable text
 
 -- Where the whole reply was written, it answers the read request that the source held, if it held one. `left` is what the

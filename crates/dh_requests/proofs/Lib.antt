@@ -9,4 +9,5 @@ pub mod Bodies
 pub mod Decided
 pub mod Whole
 pub mod Requests
+pub mod Reads
 pub mod Hearing

@@ -127,7 +127,7 @@ among_first input =
     ] (end_among at_first first)
 
 -- a head has at most 16,384 bytes
-end_little : (input : List ℕ) (n : ℕ) → head_end_of input ≡ At n → n ≤ 16384
+pub end_little : (input : List ℕ) (n : ℕ) → head_end_of input ≡ At n → n ≤ 16384
 end_little input n e = at_within (end_from at_first (take 16384 input)) (length input) n 16384 (among_first input) (sym (head_end_of-search input) ∙ e)
 
 part_little : (part : List ℕ) → NeedsMore part → length part < 4210688

@@ -6,5 +6,6 @@ pub mod Causes
 pub mod Lengths
 pub mod Takes
 pub mod Request
+pub mod ReadRequest
 pub mod Needs
 pub mod Heard

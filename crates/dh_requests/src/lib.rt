@@ -19,6 +19,6 @@ pub use cause::Cause;
 pub use dh_ports::Stop;
 pub use head_end::MOST_HEAD_BYTES;
 pub use heard::Heard;
-pub use laws::{each_reading, one_reading, whole_head};
+pub use laws::{each_reading, one_reading, read_requests, whole_head};
 pub use reading::read_request;
 pub use request::Request;

@@ -1,0 +1,5 @@
+use Rattle.dh_requests.proofs.Reads.{by_head, from_request}
+use Rattle.dh_requests.proofs.laws.read_requests.Goals as goal
+
+pub returns : goal.returns
+returns c input host pass read bodiless = (from_request input host pass read bodiless, by_head input host pass read bodiless)
