@@ -1,11 +1,12 @@
 -- The JSON of `/_/versions` has no float.
 use Rattle.std.proofs.Common.{◌≡◌, ℕ, false, not, ◌||◌, List, [], ◌∷◌, map, filter, Option, Some, None, Result, Ok, Err, IfOk, String, string_bytes, refl, ◌∙◌, ap}
 use Rattle.std.specs.declared.alloc.Global.{Global}
-use Rattle.serde_json.specs.Data.{Data, string}
+use Rattle.std.specs.Option.{option_map_or}
+use Rattle.serde_json.specs.Data.{Data, null, string}
 use Rattle.serde_json.specs.View.{items_of}
 use Rattle.serde_json.specs.Written.{has_float, items_have_float, compact_text}
 use Rattle.dh_versions.specs.declared.version.Version.{Version}
-use Rattle.dh_reply.specs.System.{text_data, version_data, versions_data}
+use Rattle.dh_reply.specs.System.{version_data, versions_data}
 
 texts_plain : (texts : List (List ℕ)) → items_have_float (items_of (map string texts)) ≡ false
 texts_plain [] = refl
@@ -19,7 +20,7 @@ versions_plain : (versions : List Version) → items_have_float (items_of (map v
 versions_plain [] = refl
 versions_plain (v ∷ versions) = ap (λ b. b || items_have_float (items_of (map version_data versions))) (version_plain v) ∙ versions_plain versions
 
-text_plain : (text : Option (List ℕ)) → has_float (text_data text) ≡ false
+text_plain : (text : Option (List ℕ)) → has_float (option_map_or string text null) ≡ false
 text_plain None = refl
 text_plain (Some text) = refl
 

@@ -53,15 +53,6 @@ stands_for_alias p name = option_map_or (λ (n : Named). n.alias) (resolved p na
 abbrev pub aliases : SeenProject → List (List ℕ)
 aliases p = filter (stands_for_alias p) (codes "latest" ∷ codes "stable" ∷ [])
 
--- texts as a JSON array
-abbrev pub texts_data : List (List ℕ) → Data
-texts_data texts = array (items_of (map string texts))
-
--- a text, or `null`
-abbrev pub text_data : Option (List ℕ) → Data
-text_data None = null
-text_data (Some text) = string text
-
 abbrev pub kind_text : Kind → List ℕ
 kind_text Branch = codes "branch"
 kind_text Tag = codes "tag"
@@ -72,28 +63,19 @@ version_data v = object
     (member (codes "ref") (string v.name)
     (member (codes "slug") (string v.slug) no_members)))
 
--- the versions that are not hidden
-abbrev pub listed_data : List Version → Data
-listed_data versions =
-    array (items_of (map version_data (filter (λ (v : Version). not v.hidden) versions)))
-
--- aliases, default, languages and listed versions as a JSON object, its keys in the order of their bytes
+-- aliases, default or `null`, languages, and the versions that are not hidden, as a JSON object, its keys in the order of their
+-- bytes
 unfoldable pub versions_data
     : List (List ℕ) → Option (List ℕ) → List (List ℕ) → List Version → Data
 versions_data aliases name langs versions = object
-    (member (codes "aliases") (texts_data aliases)
-    (member (codes "default") (text_data name)
-    (member (codes "languages") (texts_data langs)
-    (member (codes "versions") (listed_data versions) no_members))))
+    (member (codes "aliases") (array (items_of (map string aliases)))
+    (member (codes "default") (option_map_or string name null)
+    (member (codes "languages") (array (items_of (map string langs)))
+    (member (codes "versions") (array (items_of (map version_data (filter (λ (v : Version). not v.hidden) versions)))) no_members))))
 
 -- the reply with the text of that JSON object, with no spaces
-unfoldable pub versions_reply
-    : List (List ℕ) → Option (List ℕ) → List (List ℕ) → List Version → Reply
-versions_reply aliases name langs versions =
-    body_reply 200 json (compact_text (versions_data aliases name langs versions))
-
 abbrev pub versions : SeenProject → Reply
-versions p = versions_reply (aliases p) p.«default» p.langs p.versions
+versions p = body_reply 200 json (compact_text (versions_data (aliases p) p.«default» p.langs p.versions))
 
 -- ---- `/_/name`
 

@@ -1,8 +1,11 @@
 //! Addresses `/language/name/..` of a project.
 
-ghost use Rattle.std.specs.Prelude.{◌≡◌};
+ghost use Rattle.std.specs.Prelude.{◌≡◌, option_map, option_and_then};
+ghost use Rattle.std.specs.Bool.{then_some};
+ghost use Rattle.std.specs.List.{find};
+ghost use Rattle.std.specs.Str.{bytes_eq};
 ghost use Rattle.dh_ports.specs.Faults.{GivesMaybe};
-ghost use Rattle.dh_reply.specs.Replies.{known_lang, slug_named, good_of};
+ghost use Rattle.dh_texts.specs.Texts.{is_slug};
 
 use dh_paths::{Lang, Slug, TextFault};
 use dh_seen::Named;
@@ -21,7 +24,7 @@ pub struct GoodAddress {
 
 /// The name, where it has the form of a slug; no other name stands for a version.
 pub fn slug_of(alloc: Global, name: &str) -> Result<Option<Slug>, AllocError>
-    ensures { GivesMaybe (slug_named name.now) result }
+    ensures { GivesMaybe (then_some (is_slug name.now) name.now) result }
 {
     match Slug::parse(alloc, name) {
         Ok(slug) => Ok(Some(slug)),
@@ -31,13 +34,14 @@ pub fn slug_of(alloc: Global, name: &str) -> Result<Option<Slug>, AllocError>
 }
 
 pub fn take_lang(langs: Vec<Lang>, lang: &str) -> Option<Lang>
-    ensures { result ≡ known_lang langs.items lang.now }
+    ensures { result ≡ find (λ l. bytes_eq l lang.now) langs.items }
 {
     langs.into_iter().find(|known| known.as_str() == lang)
 }
 
 pub fn good_address(name: Slug, lang: Option<Lang>, named: Option<Named>) -> Option<GoodAddress>
-    ensures { result ≡ good_of (Some name) lang named }
+    ensures { result ≡ option_and_then (λ known. option_map
+        (λ it. record { lang = known; name = name; slug = it.slug }) named) lang }
 {
     match (lang, named) {
         (Some(lang), Some(named)) => Some(GoodAddress {

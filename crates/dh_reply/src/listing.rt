@@ -1,11 +1,13 @@
 //! The JSON of `/_/versions`.
 
 ghost use Rattle.std.specs.Prelude.{◌≡◌, ◌∷◌, [], ◌++◌, IfOk, if◌then◌else◌, not, filter, map, codes, string_bytes};
-ghost use Rattle.serde_json.specs.Data.{string};
+ghost use Rattle.std.specs.Option.{option_map_or};
+ghost use Rattle.serde_json.specs.Data.{null, string};
 ghost use Rattle.serde_json.specs.View.{view};
 ghost use Rattle.serde_json.specs.Written.{compact_text};
 ghost use Rattle.dh_reply.specs.System as spec;
-ghost use Rattle.dh_reply.specs.System.{text_data, version_data, versions_data};
+ghost use Rattle.dh_reply.specs.System.{version_data, versions_data};
+ghost use Rattle.dh_wire.specs.Bodies.{body_reply, json};
 
 use dh_paths::{Lang, Text};
 use dh_versions::{Kind, Version};
@@ -68,7 +70,7 @@ fn text_values(alloc: Global, texts: &[Text]) -> Result<Vec<Value>, AllocError>
 }
 
 fn text_value(alloc: Global, text: &Option<Text>) -> Result<Value, AllocError>
-    ensures { IfOk result (λ value. view value ≡ text_data text.now) }
+    ensures { IfOk result (λ value. view value ≡ option_map_or string text.now null) }
 {
     match text {
         Some(text) => Value::try_from_str(alloc, text.as_str()),
@@ -125,7 +127,6 @@ fn versions_text(
 
 /// The reply at `/_/versions`: these aliases, the default, the languages, and the versions
 /// that are not hidden, as JSON.
-#[tactic(auto, unfolding(crate::specs::System::versions_reply))]
 pub fn versions_reply(
     alloc: Global,
     aliases: &[Text],
@@ -133,8 +134,8 @@ pub fn versions_reply(
     langs: &[Lang],
     versions: &[Version],
 ) -> Result<Reply, AllocError>
-    ensures { IfOk result (λ r. r
-        ≡ spec.versions_reply aliases.now default.now langs.now versions.now) }
+    ensures { IfOk result (λ r. r ≡ body_reply 200 json
+        (compact_text (versions_data aliases.now default.now langs.now versions.now))) }
 {
     let text = versions_text(alloc, aliases, default, langs, versions)?;
     text_reply(alloc, 200, "application/json", text)

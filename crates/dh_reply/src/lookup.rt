@@ -1,9 +1,10 @@
 //! What replies are made from.
 
-ghost use Rattle.std.specs.Prelude.{is_some};
+ghost use Rattle.std.specs.Prelude.{true, false, is_some};
 ghost use Rattle.std.specs.Option.{option_and_then};
 ghost use Rattle.dh_reply.specs.Lookup.{IsLook, Meaning, AnswersFor, AnswersAll, AnswersMaybe};
-ghost use Rattle.dh_seen.specs.SeenProject.{resolved, page_at, forced_result, not_found_result};
+ghost use Rattle.dh_redirects.specs.FirstResult.{first_result};
+ghost use Rattle.dh_seen.specs.SeenProject.{resolved, page_at};
 
 use dh_paths::{Lang, Slug, Text};
 use dh_ports::{Fault, Found};
@@ -60,13 +61,13 @@ pub trait Lookup {
     fn forced_redirect(&mut self, alloc: Global, asked: &Asked) -> Found<Location>
         ensures asks { IsLook meaning self.old self.new result }
         ensures value { AnswersMaybe meaning self.old self.new result
-            (λ p. forced_result p asked.now) };
+            (λ p. first_result true p.redirects asked.now) };
 
     /// Where the first redirect leads that has a result, with force or without.
     fn not_found_redirect(&mut self, alloc: Global, asked: &Asked) -> Found<Location>
         ensures asks { IsLook meaning self.old self.new result }
         ensures value { AnswersMaybe meaning self.old self.new result
-            (λ p. not_found_result p asked.now) };
+            (λ p. first_result false p.redirects asked.now) };
 
     /// The visible versions, hidden ones too, by slug; none where there is no project.
     fn listing(&mut self, alloc: Global) -> Result<Vec<Version>, Fault>

@@ -1,7 +1,8 @@
 //! The texts and replies of the table's cases.
 
-ghost use Rattle.std.specs.Prelude.{◌≡◌, ◌++◌, IfOk, IsSome, OnErr, OnOk, string_bytes};
-ghost use Rattle.dh_reply.specs.Replies.{page_reply, with_query, redirect, address, indexed, slash_added};
+ghost use Rattle.std.specs.Prelude.{◌≡◌, [], ◌∷◌, ◌++◌, IfOk, IsSome, OnErr, OnOk, string_bytes};
+ghost use Rattle.std.specs.Option.{option_map_or};
+ghost use Rattle.dh_reply.specs.Replies.{page_reply, redirect, address, indexed, slash_added};
 
 use dh_paths::{Bytes, Text, encode_path};
 use dh_seen::Page;
@@ -22,7 +23,8 @@ pub fn make_page_reply(status: u16, page: Page) -> Reply
 }
 
 fn add_query(to: &mut String, query: &Option<Text>) -> Result<(), AllocError>
-    ensures added { OnOk result (string_bytes to.new ≡ with_query (string_bytes to.old) query.now) }
+    ensures added { OnOk result (string_bytes to.new
+        ≡ string_bytes to.old ++ option_map_or (λ asked. 63 ∷ asked) query.now []) }
     ensures short { OnErr result (IsSome query.now) }
 {
     if let Some(query) = query {

@@ -2,7 +2,7 @@
 
 ghost use Rattle.std.specs.Prelude.{◌≡◌, IfOk};
 ghost use Rattle.dh_paths.specs.Places.{place};
-ghost use Rattle.dh_reply.specs.Replies.{asked_at, leads_to, parts_at};
+ghost use Rattle.dh_reply.specs.Replies.{leads_to, parts_at};
 
 use crate::address::GoodAddress;
 use dh_paths::{Bytes, Split, Text};
@@ -45,7 +45,11 @@ pub fn asked_of(
     read: &Read,
 ) -> Result<Asked, AllocError>
     ensures { IfOk result
-        (λ r. r ≡ asked_at (place asked.now) own.now read.now.path read.now.query) }
+        (λ r. r ≡ record {
+          path = read.now.path;
+          query = read.now.query;
+          parts = parts_at (place asked.now) own.now;
+        }) }
 {
     Ok(Asked {
         path: Text::copy_of(alloc, read.path.as_str())?,

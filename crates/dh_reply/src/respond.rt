@@ -1,10 +1,11 @@
 //! The reply to a read: each case of the table is a function of its own.
 
-ghost use Rattle.std.specs.Prelude.{is_some};
+ghost use Rattle.std.specs.Prelude.{◌++◌, true, false, is_some, codes};
 ghost use Rattle.std.specs.Option.{option_and_then};
 ghost use Rattle.dh_paths.specs.Places.{place};
 ghost use Rattle.dh_reply.specs.Lookup.{IsLook, AnswersFor, AnswersMaybe, AnswersForProject};
 ghost use Rattle.dh_reply.specs.Replies as spec;
+ghost use Rattle.dh_seen.specs.SeenProject.{page_at, resolved};
 
 use crate::address::{GoodAddress, good_address, slug_of, take_lang};
 use crate::lookup::Lookup;
@@ -71,7 +72,7 @@ fn good_at<L: Lookup>(alloc: Global, lookup: &mut L, asked: &Split) -> Found<Goo
 fn page_found<L: Lookup>(alloc: Global, lookup: &mut L, at: &GoodAddress, file: &str) -> Found<Page>
     ensures asks { IsLook L.meaning lookup.old lookup.new result }
     ensures value { AnswersMaybe L.meaning lookup.old lookup.new result
-        (λ p. spec.page_found p at.now file.now) }
+        (λ p. page_at p at.now.lang at.now.slug (spec.indexed file.now)) }
 {
     let file = make_indexed(alloc, file)?;
     lookup.page(alloc, &at.lang, &at.slug, file.as_str())
@@ -87,7 +88,7 @@ fn is_folder<L: Lookup>(
     ensures asks { IsLook L.meaning lookup.old lookup.new result }
     ensures value { AnswersFor L.meaning lookup.old lookup.new result
         (λ content. is_some (option_and_then
-        (λ p. spec.folder_found p at.now file.now) content)) }
+        (λ p. page_at p at.now.lang at.now.slug (file.now ++ codes "/index.html")) content)) }
 {
     let file = joined(alloc, file, "/index.html")?;
     lookup.has_page(alloc, &at.lang, &at.slug, file.as_str())
@@ -157,7 +158,7 @@ fn own_not_found<L: Lookup>(
 ) -> Found<Reply>
     ensures asks { IsLook L.meaning lookup.old lookup.new result }
     ensures value { AnswersMaybe L.meaning lookup.old lookup.new result
-        (λ p. spec.own_not_found p own.now) }
+        (λ p. option_and_then (λ at. spec.not_found p at.lang at.slug) own.now) }
 {
     match own {
         Some(at) => not_found(alloc, lookup, &at.lang, &at.slug),
@@ -168,7 +169,8 @@ fn own_not_found<L: Lookup>(
 /// The version that `/` leads to.
 fn default_version<L: Lookup>(alloc: Global, lookup: &mut L) -> Found<Named>
     ensures asks { IsLook L.meaning lookup.old lookup.new result }
-    ensures value { AnswersMaybe L.meaning lookup.old lookup.new result spec.default_version }
+    ensures value { AnswersMaybe L.meaning lookup.old lookup.new result
+        (λ p. option_and_then (resolved p) p.default) }
 {
     match lookup.default(alloc)? {
         Some(name) => lookup.name(alloc, name.as_str()),
@@ -215,7 +217,7 @@ fn nothing_served<L: Lookup>(
 fn forced_away<L: Lookup>(alloc: Global, lookup: &mut L, asked: &Asked) -> Found<Reply>
     ensures asks { IsLook L.meaning lookup.old lookup.new result }
     ensures value { AnswersMaybe L.meaning lookup.old lookup.new result
-        (λ p. spec.forced_away p asked.now) }
+        (λ p. spec.led_away p true asked.now) }
 {
     let location = lookup.forced_redirect(alloc, asked)?;
     Ok(location.map(|location| make_led(alloc, location)))
@@ -225,7 +227,7 @@ fn forced_away<L: Lookup>(alloc: Global, lookup: &mut L, asked: &Asked) -> Found
 fn led_away<L: Lookup>(alloc: Global, lookup: &mut L, asked: &Asked) -> Found<Reply>
     ensures asks { IsLook L.meaning lookup.old lookup.new result }
     ensures value { AnswersMaybe L.meaning lookup.old lookup.new result
-        (λ p. spec.led_away p asked.now) }
+        (λ p. spec.led_away p false asked.now) }
 {
     let location = lookup.not_found_redirect(alloc, asked)?;
     Ok(location.map(|location| make_led(alloc, location)))
@@ -281,7 +283,8 @@ fn place_reply<L: Lookup>(
 ) -> Result<Reply, Fault>
     ensures asks { IsLook L.meaning lookup.old lookup.new result }
     ensures value { AnswersForProject L.meaning lookup.old lookup.new result
-        (λ p. spec.place_reply p (place asked.now) read.now.path read.now.query) }
+        (λ p. spec.reply_at p (place asked.now) (spec.good_at p (place asked.now))
+        read.now.path read.now.query) }
 {
     let own = good_at(alloc, lookup, asked)?;
     reply_at(alloc, lookup, asked, &own, read)

@@ -1,12 +1,9 @@
--- What a project shows its caller: the version that a name stands for, the page at a path, where redirects lead.
+-- What a project shows its caller: the version that a name stands for, and the page at a path.
 use Rattle.std.specs.Prelude.{ℕ, Bool, true, false, ◌&&◌, if◌then◌else◌, Option, None, List, codes}
 use Rattle.std.specs.List.{find}
 use Rattle.std.specs.Option.{option_map, option_or}
 use Rattle.std.specs.Str.{bytes_eq}
 use Rattle.dh_versions.specs.declared.version.Version.{Version}
-use Rattle.dh_redirects.specs.declared.redirect.Asked.{Asked}
-use Rattle.dh_redirects.specs.declared.redirect.Location.{Location}
-use Rattle.dh_redirects.specs.FirstResult.{first_result}
 use Rattle.dh_seen.specs.declared.found.Named.{Named}
 use Rattle.dh_seen.specs.declared.found.Page.{Page}
 use Rattle.dh_seen.specs.declared.seen_project.SeenProject.{SeenProject}
@@ -42,11 +39,3 @@ stands_at lang slug path s = bytes_eq s.lang lang && bytes_eq s.slug slug && byt
 unfoldable pub page_at : SeenProject → List ℕ → List ℕ → List ℕ → Option Page
 page_at p lang slug path =
     option_map (λ (s : StoredPage). s.page) (find (stands_at lang slug path) p.pages)
-
--- the result of the first redirect with force that has one; it comes before any page
-abbrev pub forced_result : SeenProject → Asked → Option Location
-forced_result p asked = first_result true p.redirects asked
-
--- the result of the first redirect that has one; it comes where nothing is served
-abbrev pub not_found_result : SeenProject → Asked → Option Location
-not_found_result p asked = first_result false p.redirects asked

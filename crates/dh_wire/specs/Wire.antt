@@ -1,7 +1,6 @@
 -- The bytes of a reply (RFC 9112, sections 2.1, 4 and 5).
 use Rattle.std.specs.Prelude.{ℕ, Bool, if◌then◌else◌, Option, Some, None, List, [], ◌∷◌, ◌++◌, length, codes}
 use Rattle.std.specs.Fmt.{decimal}
-use Rattle.std.specs.Option.{option_map}
 use Rattle.dh_wire.specs.Statuses.{phrase_of}
 use Rattle.dh_wire.specs.declared.reply.Allow.{Allow}
 use Rattle.dh_wire.specs.declared.reply.Allow.TheVariants.{Get, Post}
@@ -19,28 +18,21 @@ unfoldable pub optional_line : List ℕ → Option (List ℕ) → List ℕ
 optional_line name None = []
 optional_line name (Some value) = line name value
 
-abbrev pub allow_text : Allow → List ℕ
-allow_text Get = codes "GET, HEAD"
-allow_text Post = codes "POST"
-
 unfoldable pub allow_line : Option Allow → List ℕ
-allow_line allow = optional_line (codes "Allow") (option_map allow_text allow)
+allow_line None = []
+allow_line (Some Get) = line (codes "Allow") (codes "GET, HEAD")
+allow_line (Some Post) = line (codes "Allow") (codes "POST")
 
 -- `HTTP/1.1 status phrase` and CR LF
 unfoldable pub status_line : ℕ → List ℕ
 status_line status = codes "HTTP/1.1 " ++ decimal status ++ codes " " ++ phrase_of status ++ crlf
 
--- the lines on the reply: its status, location, allowed methods and media type
-unfoldable pub subject_of : Reply → List ℕ
-subject_of r = (status_line r.status ++ optional_line (codes "Location") r.location) ++ (allow_line r.allow ++ optional_line (codes "Content-Type") r.media)
-
--- the lines on the body's length and on the connection, and the empty line
-unfoldable pub framing_of : ℕ → List ℕ
-framing_of body_length = line (codes "Content-Length") (decimal body_length) ++ line (codes "Connection") (codes "close") ++ crlf
-
--- all before the body
+-- all before the body: the lines on the reply, those on the length of the body and on the connection, and the empty line
 unfoldable pub head_of : Reply → List ℕ
-head_of r = subject_of r ++ framing_of (length r.body)
+head_of r =
+    ((status_line r.status ++ optional_line (codes "Location") r.location)
+    ++ (allow_line r.allow ++ optional_line (codes "Content-Type") r.media))
+    ++ (line (codes "Content-Length") (decimal (length r.body)) ++ line (codes "Connection") (codes "close") ++ crlf)
 
 -- the bytes of a reply; to HEAD the body is left out
 abbrev pub reply_bytes_of : Reply → Bool → List ℕ

@@ -1,8 +1,9 @@
 //! The bytes of a reply.
 
 ghost use Rattle.std.specs.Prelude.{◌≡◌, ◌++◌, IfOk, OnOk, None, codes};
+ghost use Rattle.std.specs.Fmt.{decimal};
 ghost use Rattle.dh_wire.specs.Statuses.{fault_reply_of};
-ghost use Rattle.dh_wire.specs.Wire.{line, optional_line, allow_line, status_line, subject_of, framing_of, head_of, reply_bytes_of};
+ghost use Rattle.dh_wire.specs.Wire.{crlf, line, optional_line, allow_line, status_line, head_of, reply_bytes_of};
 
 use crate::reply::{Allow, Reply};
 use crate::statuses::phrase;
@@ -48,7 +49,7 @@ fn put_optional(out: &mut Vec<u8>, name: &str, value: &Option<Text>) -> Result<(
     }
 }
 
-#[tactic(auto, unfolding(crate::specs::Wire::allow_line, crate::specs::Wire::optional_line))]
+#[tactic(auto, unfolding(crate::specs::Wire::allow_line))]
 fn put_allow(out: &mut Vec<u8>, allow: Option<Allow>) -> Result<(), AllocError>
     ensures { OnOk result (out.new.items ≡ out.old.items ++ allow_line allow) }
 {
@@ -90,17 +91,20 @@ fn put_allow_and_media(out: &mut Vec<u8>, reply: &Reply) -> Result<(), AllocErro
     put_optional(out, "Content-Type", &reply.media)
 }
 
-#[tactic(auto, unfolding(crate::specs::Wire::subject_of))]
 fn put_subject(alloc: Global, out: &mut Vec<u8>, reply: &Reply) -> Result<(), AllocError>
-    ensures { OnOk result (out.new.items ≡ out.old.items ++ subject_of reply.now) }
+    ensures { OnOk result (out.new.items ≡ out.old.items
+        ++ ((status_line reply.now.status ++ optional_line (codes "Location") reply.now.location)
+        ++ (allow_line reply.now.allow
+        ++ optional_line (codes "Content-Type") reply.now.media))) }
 {
     put_status_and_location(alloc, out, reply)?;
     put_allow_and_media(out, reply)
 }
 
-#[tactic(auto, unfolding(crate::specs::Wire::framing_of))]
 fn put_framing(alloc: Global, out: &mut Vec<u8>, body_length: usize) -> Result<(), AllocError>
-    ensures { OnOk result (out.new.items ≡ out.old.items ++ framing_of body_length) }
+    ensures { OnOk result (out.new.items ≡ out.old.items
+        ++ (line (codes "Content-Length") (decimal body_length)
+        ++ line (codes "Connection") (codes "close") ++ crlf)) }
 {
     put_line(
         out,
