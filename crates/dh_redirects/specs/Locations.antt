@@ -72,29 +72,19 @@ clean_file file =
 abbrev pub file_path : Parts → List ℕ → List ℕ
 file_path parts file = version_path parts ++ (slash ∷ escaped file)
 
--- where a page redirect leads: below the version's path, where To is a path
-abbrev pub in_version : Parts → List ℕ → List ℕ → List ℕ
-in_version parts target text = if is_path target then version_path parts ++ text else text
-
--- To filled, where From fits the text
-abbrev pub filled_for : List ℕ → List ℕ → List ℕ → Option (List ℕ)
-filled_for source target text = option_map (λ rest. filled rest target) (matched source text)
-
--- To filled for a page redirect, where From fits `/` and the file
+-- To filled for a page redirect, where From fits `/` and the file; below the version's path, where To is a path
 abbrev pub page_for : List ℕ → List ℕ → Parts → Option (List ℕ)
-page_for source target parts = option_map (λ rest. in_version parts target (filled rest target)) (matched source (slash ∷ parts.file))
+page_for source target parts =
+    option_map (λ rest. if is_path target then version_path parts ++ filled rest target else filled rest target)
+    (matched source (slash ∷ parts.file))
 
 -- To filled, or the address of the changed file, where kind and From fit the request; without parts only an exact one fits
 abbrev pub written_by : RedirectKind → List ℕ → List ℕ → List ℕ → Option Parts → Option (List ℕ)
-written_by Exact source target path parts = filled_for source target path
+written_by Exact source target path parts = option_map (λ rest. filled rest target) (matched source path)
 written_by _ source target path None = None
 written_by Page source target path (Some parts) = page_for source target parts
 written_by CleanToHtml source target path (Some parts) = option_map (file_path parts) (html_file parts.file)
 written_by HtmlToClean source target path (Some parts) = option_map (file_path parts) (clean_file parts.file)
-
--- the address that a redirect writes for a request, if it fits
-abbrev pub written_of : Redirect → Asked → Option (List ℕ)
-written_of r asked = written_by r.kind r.source r.target asked.path asked.parts
 
 abbrev pub is_page_kind : RedirectKind → Bool
 is_page_kind Page = true
@@ -102,7 +92,8 @@ is_page_kind _ = false
 
 -- memory may be taken: an address is written, or the path of a file to compare From with
 abbrev pub asks_memory : Redirect → Asked → Bool
-asks_memory r asked = is_some (written_of r asked) || (is_page_kind r.kind && is_some asked.parts)
+asks_memory r asked =
+    is_some (written_by r.kind r.source r.target asked.path asked.parts) || (is_page_kind r.kind && is_some asked.parts)
 
 -- the leading slashes made one
 abbrev pub one_slash : List ℕ → List ℕ
@@ -147,7 +138,7 @@ led on_site asked text =
 unfoldable pub redirect_result : Redirect → Asked → Option Location
 redirect_result r asked =
     option_map (λ text. record { status = r.status; text = text })
-    (option_and_then (led (is_on_site r.kind r.target) asked) (written_of r asked))
+    (option_and_then (led (is_on_site r.kind r.target) asked) (written_by r.kind r.source r.target asked.path asked.parts))
 
 -- the text begins with `/`, and not with `//`
 abbrev pub is_rooted : List ℕ → Bool

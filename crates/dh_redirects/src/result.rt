@@ -1,7 +1,7 @@
 //! Where a redirect leads.
 
-ghost use Rattle.std.specs.Prelude.{◌≡◌, ◌++◌, IsTrue, IfOk, IfSome, OnOk, OnErr, is_some, string_bytes};
-ghost use Rattle.dh_redirects.specs.Locations.{version_path, file_path, filled_for, page_for, written_of, asks_memory, is_on_site, redirect_result, led, StaysOnSite, LeadsElsewhere};
+ghost use Rattle.std.specs.Prelude.{◌≡◌, ◌++◌, option_map, IsTrue, IfOk, IfSome, OnOk, OnErr, is_some, string_bytes};
+ghost use Rattle.dh_redirects.specs.Locations.{version_path, file_path, filled, matched, page_for, written_by, asks_memory, is_on_site, redirect_result, led, StaysOnSite, LeadsElsewhere};
 
 use crate::files::{clean_of, html_of};
 use crate::fill::{push_filled, rest_of, single_slash};
@@ -57,9 +57,10 @@ fn led_to(
 impl Redirect {
     fn exact_address(&self, alloc: Global, asked: &Asked) -> Result<Option<Text>, AllocError>
         ensures value { IfOk result
-            (λ r. r ≡ filled_for self.now.source self.now.target asked.now.path) }
-        ensures memory { OnErr result
-            (IsTrue (is_some (filled_for self.now.source self.now.target asked.now.path))) }
+            (λ r. r ≡ option_map (λ rest. filled rest self.now.target)
+            (matched self.now.source asked.now.path)) }
+        ensures memory { OnErr result (IsTrue (is_some (option_map
+            (λ rest. filled rest self.now.target) (matched self.now.source asked.now.path)))) }
     {
         let Some(rest) = rest_of(self.source.as_str(), asked.path.as_str()) else {
             return Ok(None);
@@ -87,7 +88,8 @@ impl Redirect {
 
     /// The address that the redirect writes, if it fits the request: To filled, or the address of the changed file.
     fn written(&self, alloc: Global, asked: &Asked) -> Result<Option<Text>, AllocError>
-        ensures value { IfOk result (λ r. r ≡ written_of self.now asked.now) }
+        ensures value { IfOk result (λ r. r ≡ written_by self.now.kind self.now.source
+            self.now.target asked.now.path asked.now.parts) }
         ensures memory { OnErr result (IsTrue (asks_memory self.now asked.now)) }
     {
         match (self.kind, &asked.parts) {

@@ -17,9 +17,9 @@ use Rattle.dh_seen.specs.declared.found.Page.{Page as FoundPage}
 use Rattle.dh_wire.specs.declared.reply.Reply.{Reply}
 use Rattle.dh_seen.specs.declared.seen_project.SeenProject.{SeenProject}
 use Rattle.dh_seen.specs.SeenProject.{resolved, page_at}
-use Rattle.dh_wire.specs.Bodies.{body_reply}
+use Rattle.dh_wire.specs.Bodies.{body_reply, plain_text}
 use Rattle.dh_wire.specs.Statuses.{host_not_found}
-use Rattle.dh_reply.specs.System.{robots, system}
+use Rattle.dh_reply.specs.System.{robots_text, versions}
 
 abbrev pub page_reply : ℕ → FoundPage → Reply
 page_reply status page = body_reply status page.media page.body
@@ -140,10 +140,11 @@ reply_at p place own path query =
     unwrap_or (found p place own (record { path = path; query = query; parts = parts_at place own }) path query)
     (nothing_served p own)
 
--- the reply of a project; at `/robots.txt` and below `/_/` neither redirects nor pages count
+-- the reply of a project; at `/robots.txt` and below `/_/` neither redirects nor pages count, and any name there but `versions`
+-- is answered as where there is no project
 abbrev pub project_reply : SeenProject → Place → List ℕ → Option (List ℕ) → Reply
-project_reply p Robots path query = robots p
-project_reply p (System name) path query = system p name
+project_reply p Robots path query = body_reply 200 plain_text (robots_text p.langs p.versions)
+project_reply p (System name) path query = if bytes_eq name (codes "versions") then versions p else host_not_found
 project_reply p place path query = reply_at p place (good_at p place) path query
 
 -- the reply to a read (Read the Docs, Versions and Redirects)

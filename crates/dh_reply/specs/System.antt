@@ -1,7 +1,6 @@
 -- What a project answers at `/robots.txt` and below `/_/`: the addresses that crawlers are to leave out, and its versions as JSON.
 use Rattle.std.specs.Prelude.{ℕ, Bool, false, not, if◌then◌else◌, Option, Some, None, List, [], ◌∷◌, ◌++◌, map, filter, flat_map, codes}
 use Rattle.std.specs.Option.{option_map_or}
-use Rattle.std.specs.Str.{bytes_eq}
 use Rattle.serde_json.specs.Data.{Data, null, string, array, object, no_members, member}
 use Rattle.serde_json.specs.View.{items_of}
 use Rattle.serde_json.specs.Written.{compact_text}
@@ -12,8 +11,7 @@ use Rattle.dh_seen.specs.declared.found.Named.{Named}
 use Rattle.dh_seen.specs.declared.seen_project.SeenProject.{SeenProject}
 use Rattle.dh_seen.specs.SeenProject.{resolved}
 use Rattle.dh_wire.specs.declared.reply.Reply.{Reply}
-use Rattle.dh_wire.specs.Bodies.{plain_text, json, body_reply}
-use Rattle.dh_wire.specs.Statuses.{host_not_found}
+use Rattle.dh_wire.specs.Bodies.{json, body_reply}
 
 -- ---- `/robots.txt` (RFC 9309, section 2.2)
 
@@ -41,17 +39,11 @@ unfoldable pub robots_text : List (List ℕ) → List Version → List ℕ
 robots_text langs versions =
     lines_text (codes "User-agent: *" ∷ or_nothing (disallowed langs versions))
 
-abbrev pub robots : SeenProject → Reply
-robots p = body_reply 200 plain_text (robots_text p.langs p.versions)
-
 -- ---- `/_/versions`
 
--- the name stands for an alias, and not for a version of that slug
-abbrev pub stands_for_alias : SeenProject → List ℕ → Bool
-stands_for_alias p name = option_map_or (λ (n : Named). n.alias) (resolved p name) false
-
+-- of `latest` and `stable` those that stand for an alias, and not for a version of that slug
 abbrev pub aliases : SeenProject → List (List ℕ)
-aliases p = filter (stands_for_alias p) (codes "latest" ∷ codes "stable" ∷ [])
+aliases p = filter (λ name. option_map_or (λ (n : Named). n.alias) (resolved p name) false) (codes "latest" ∷ codes "stable" ∷ [])
 
 abbrev pub kind_text : Kind → List ℕ
 kind_text Branch = codes "branch"
@@ -76,9 +68,3 @@ versions_data aliases name langs versions = object
 -- the reply with the text of that JSON object, with no spaces
 abbrev pub versions : SeenProject → Reply
 versions p = body_reply 200 json (compact_text (versions_data (aliases p) p.«default» p.langs p.versions))
-
--- ---- `/_/name`
-
--- any name but `versions` is answered as where there is no project
-abbrev pub system : SeenProject → List ℕ → Reply
-system p name = if bytes_eq name (codes "versions") then versions p else host_not_found

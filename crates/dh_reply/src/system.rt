@@ -1,9 +1,13 @@
 //! `/robots.txt`, and what stands below `/_/`.
 
-ghost use Rattle.std.specs.Prelude.{◌≡◌, false, IfOk, IfSome};
+ghost use Rattle.std.specs.Prelude.{◌≡◌, false, if◌then◌else◌, codes, IfOk, IfSome};
 ghost use Rattle.std.specs.Option.{option_map_or};
 ghost use Rattle.dh_reply.specs.Lookup.{IsLook, AnswersFor, AnswersAll, AnswersForProject};
+ghost use Rattle.std.specs.Str.{bytes_eq};
 ghost use Rattle.dh_reply.specs.System as spec;
+ghost use Rattle.dh_seen.specs.SeenProject.{resolved};
+ghost use Rattle.dh_wire.specs.Bodies.{body_reply, plain_text};
+ghost use Rattle.dh_wire.specs.Statuses.{host_not_found};
 
 use crate::listing::{names_where, versions_reply};
 use crate::lookup::Lookup;
@@ -29,7 +33,8 @@ fn listed<L: Lookup>(alloc: Global, lookup: &mut L) -> Result<(Vec<Lang>, Vec<Ve
 /// The reply at `/robots.txt`.
 pub fn robots<L: Lookup>(alloc: Global, lookup: &mut L) -> Result<Reply, Fault>
     ensures asks { IsLook L.meaning lookup.old lookup.new result }
-    ensures value { AnswersForProject L.meaning lookup.old lookup.new result spec.robots }
+    ensures value { AnswersForProject L.meaning lookup.old lookup.new result
+        (λ p. body_reply 200 plain_text (spec.robots_text p.langs p.versions)) }
 {
     let (langs, versions) = listed(alloc, lookup)?;
     let text = robots_text(alloc, &langs, &versions)?;
@@ -40,7 +45,8 @@ pub fn robots<L: Lookup>(alloc: Global, lookup: &mut L) -> Result<Reply, Fault>
 fn stands_for_alias<L: Lookup>(alloc: Global, lookup: &mut L, name: &str) -> Result<bool, Fault>
     ensures asks { IsLook L.meaning lookup.old lookup.new result }
     ensures value { AnswersFor L.meaning lookup.old lookup.new result
-        (λ content. option_map_or (λ p. spec.stands_for_alias p name.now) content false) }
+        (λ content. option_map_or (λ p. option_map_or (λ n. n.alias)
+        (resolved p name.now) false) content false) }
 {
     match lookup.name(alloc, name)? {
         Some(named) => Ok(named.alias),
@@ -73,7 +79,8 @@ fn versions<L: Lookup>(alloc: Global, lookup: &mut L) -> Result<Reply, Fault>
 pub fn system<L: Lookup>(alloc: Global, lookup: &mut L, name: &str) -> Result<Reply, Fault>
     ensures asks { IsLook L.meaning lookup.old lookup.new result }
     ensures value { AnswersForProject L.meaning lookup.old lookup.new result
-        (λ p. spec.system p name.now) }
+        (λ p. if bytes_eq name.now (codes "versions") then spec.versions p
+        else host_not_found) }
 {
     if name == "versions" {
         versions(alloc, lookup)

@@ -11,14 +11,10 @@ use Rattle.dh_versions.specs.declared.version.Kind.TheVariants.{Branch, Tag}
 abbrev pub Numbers : Type 0
 Numbers = ℕ × ℕ × ℕ
 
--- `v`
-abbrev pub small_v : ℕ
-small_v = 118
-
--- a name after at most one leading `v`
+-- a name after at most one leading `v`, which is 118
 abbrev pub without_v : List ℕ → List ℕ
 without_v [] = []
-without_v (b ∷ rest) = if b == small_v then rest else b ∷ rest
+without_v (b ∷ rest) = if b == 118 then rest else b ∷ rest
 
 -- the name, after at most one leading `v`, is the text of these parts by the grammar, and the three numbers fit 64 bits
 abbrev pub IsSemVerOf : List ℕ → Parts → Type 0

@@ -55,15 +55,13 @@ made_in d =
     option_and_then (λ slug. option_and_then (λ active. option_and_then (λ hidden. option_map (λ private. Made slug active hidden private)
     (flag_at (codes "private") d)) (flag_at (codes "hidden") d)) (flag_at (codes "active") d)) (answered_slug d)
 
-abbrev pub named_in : List ℕ → Data → Option Answer
-named_in name d =
+abbrev pub answer_in : Data → Option Answer
+answer_in d =
+    option_and_then (λ name.
     if bytes_eq name (codes "made") then made_in d
     else if bytes_eq name (codes "known") then option_map Known (answered_slug d)
     else if bytes_eq name (codes "stored") then option_map Stored (pages_in d)
-    else None
-
-abbrev pub answer_in : Data → Option Answer
-answer_in d = option_and_then (λ name. named_in name d) (text_at (codes "answer") d)
+    else None) (text_at (codes "answer") d)
 
 -- the first answer to a retry key, from the JSON text that is kept of it
 abbrev pub answer_of : List ℕ → Option Answer
