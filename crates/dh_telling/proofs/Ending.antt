@@ -1,5 +1,6 @@
 -- How runs end, by what is ordered and by what came of it.
 use Rattle.std.proofs.Common.{◌≡◌, ◌⊎◌, ◌∙◌, ℕ, arith, Bool, true, false, true≢false, List, [], ◌∷◌, ◌++◌, Option, Result, Ok, Err, refl, sym, ap, subst, inl, inr}
+use Rattle.std.proofs.lemmas.Bool.{cases_Bool}
 use Rattle.std.proofs.lemmas.Result.{err_from_is_err_and}
 use Rattle.std.specs.Prelude.{◌||◌, IsTrue, IsErrAnd, IfOk, OnOk, None, drop, codes}
 use Rattle.std.specs.FinMap.{empty}
@@ -30,7 +31,7 @@ use Rattle.dh_lists.specs.declared.lists.ListFault.TheVariants as listed
 use Rattle.dh_lists.specs.declared.lists.RecordFault.{RecordFault}
 use Rattle.dh_script.specs.Running.{RunsScript}
 use Rattle.dh_lines.specs.Lines.{asking, line_in}
-use Rattle.dh_telling.specs.Ends.{Ended, EndsError, EndsHelp, EndsScript, EndsChecked, EndsOver, EndsOrdered, EndsList, EndsAsked, EndsFirst, EndsVersion, EndsWords}
+use Rattle.dh_telling.specs.Ends.{Ended, EndsAs, EndsError, EndsHelp, EndsOrdered, EndsList, EndsUnlessCut, EndsVersion, Wanted, Over, Alone, ordered_at, wanted, wanted_of, wanted_unless}
 use Rattle.dh_telling.specs.Ends.{is_failure_status, status_after, may_end_order, may_end_single, asks_help, asks_version, line_asked, line_run}
 use Rattle.dh_telling.specs.Failing.{may_fail, IsDoneOr, is_of_output, is_of_init, is_of_list, is_of_script, is_of_single, is_of_command, is_of_opened, is_of_order, is_of_sent, may_be_sent, is_of_checked, is_of_file, is_of_memory}
 use Rattle.dh_telling.specs.Failures.{failure_of}
@@ -114,10 +115,10 @@ script_cut moment left held now before after x y it = record { script = it.scrip
 abbrev Ran : ℕ → Option Text → World → World → Option Text → Option Text → Result Status Failure → Type 0
 Ran moment left before after held now r = RunsScript {T = Status} {E = Failure} moment left before after held now r
 
-ran_all : (moment : ℕ) (left held now : Option Text) (after : World) (s : Status) → Ran moment left empty after held now (Ok s) → EndsScript moment left held now Done
+ran_all : (moment : ℕ) (left held now : Option Text) (after : World) (s : Status) → Ran moment left empty after held now (Ok s) → EndsAs (Alone (order.Program program.Script)) moment left held now Done
 ran_all moment left held now after s it = (after, record { script = it.script; read = it.read; ran = it.ran })
 
-ran_some : (moment : ℕ) (left held now : Option Text) (after : World) (f : Failure) → Ran moment left empty after held now (Err f) → EndsScript moment left held now Faulty
+ran_some : (moment : ℕ) (left held now : Option Text) (after : World) (f : Failure) → Ran moment left empty after held now (Err f) → EndsAs (Alone (order.Program program.Script)) moment left held now Faulty
 ran_some moment left held now after f it = inr (after, record { script = it.script; read = it.read; ran = it.ran })
 
 script_in_memory : (f : Failure) → MayEnd is_of_script f → MayEnd (is_of_memory (order.Program program.Script)) f
@@ -135,14 +136,14 @@ script_in_memory (Request fault) it = it
 pub script_ended
     : (moment : ℕ) (left held now : Option Text) (before after : World) (r : Result Status Failure)
     → before ≡ empty → Ran moment left before after held now r → IsDoneOr is_of_script r
-    → Ended (EndsScript moment left held now) (is_of_memory (order.Program program.Script)) r
+    → Ended (EndsAs (Alone (order.Program program.Script)) moment left held now) (is_of_memory (order.Program program.Script)) r
 script_ended moment left held now before after (Ok status) none ran is = (
-  subst (EndsScript moment left held now) (sym is)
+  subst (EndsAs (Alone (order.Program program.Script)) moment left held now) (sym is)
       (ran_all moment left held now after status (subst (λ w. Ran moment left w after held now (Ok status)) none ran)),
   ap is_failure_status is,
 )
 script_ended moment left held now before after (Err failure) none ran is = (
-  subst (EndsScript moment left held now) (sym (is_faulty is_of_script (λ fault. refl) failure is))
+  subst (EndsAs (Alone (order.Program program.Script)) moment left held now) (sym (is_faulty is_of_script (λ fault. refl) failure is))
       (ran_some moment left held now after failure (subst (λ w. Ran moment left w after held now (Err failure)) none ran)),
   script_in_memory failure is,
 )
@@ -163,24 +164,16 @@ done_order (order.Program program.Script) = refl
 done_order (order.Program program.Answer) = refl
 done_order (order.Program (program.Serve count port log wait)) = refl
 
-module _ (held now : Option Text) (o : Order) where
+module _ (moment : ℕ) (left held now : Option Text) (o : Order) where
   -- each run may end with a fault
-  over_faulty : EndsOver o held now Faulty
-  over_faulty = by (has_bad_target o)
-    where
-      by : (bad : Bool) → EndsChecked bad o held now Faulty
-      by true = refl
-      by false = faulty_order o
+  pub over_faulty : EndsAs (Over o) moment left held now Faulty
+  over_faulty = elim (cases_Bool (has_bad_target o)) [ inl bad ↦ inl (bad, inl refl) | inr good ↦ inr (good, faulty_order o) ]
 
   -- this run, or a server, ended so: of what has no bad target
   pub checked : (r : Result Status Failure) → has_bad_target o ≡ false
-      → Ended (λ s. IsTrue (may_end_order o s)) (is_of_sent o) r → Ended (EndsOver o held now) (is_of_file o) r
-  checked (Ok s) good it =
-      (let Q : Bool → Type 0 = λ b. EndsChecked b o held now s in subst Q (sym good) it.0, it.1)
-  checked (Err f) good it = (
-    (let Q : Bool → Type 0 = λ b. EndsChecked b o held now (status_after f) in subst Q (sym good) it.0),
-    (let Q : Bool → Type 0 = λ b. MayEnd (is_of_checked b o) f in subst Q (sym good) it.1),
-  )
+      → Ended (λ s. IsTrue (may_end_order o s)) (is_of_sent o) r → Ended (EndsAs (Over o) moment left held now) (is_of_file o) r
+  checked (Ok s) good it = (inr (good, it.0), it.1)
+  checked (Err f) good it = (inr (good, it.0), (let Q : Bool → Type 0 = λ b. MayEnd (is_of_checked b o) f in subst Q (sym good) it.1))
 
   -- no order over a desk fails so
   no_control : (fault : ControlFault) → IsTrue (is_of_order o (Control fault)) → IsTrue (may_be_sent o)
@@ -210,7 +203,7 @@ module _ (held now : Option Text) (o : Order) where
   as_sent (Err f) it = (it.0, opened_sent f it.1)
 
   pub opened_ended : (r : Result Status Failure) → has_bad_target o ≡ false
-      → Ended (λ s. IsTrue (may_end_order o s)) (is_of_opened o) r → Ended (EndsOver o held now) (is_of_file o) r
+      → Ended (λ s. IsTrue (may_end_order o s)) (is_of_opened o) r → Ended (EndsAs (Over o) moment left held now) (is_of_file o) r
   opened_ended (Ok s) good it = checked (Ok s) good it
   opened_ended (Err f) good it = checked (Err f) good (it.0, opened_sent f it.1)
 
@@ -300,11 +293,11 @@ module _ (host : Text) (bytes : List ℕ) (held now : Option Text) where
   EndsListed r = Ended (EndsList host bytes held now) is_of_command r
 
   -- its command ended so
-  over_act : (o : Order) (s : Status) → OrdersImport host bytes (Ok o) → IsTrue (may_end_order o s) → EndsOver o held now s
+  over_act : (o : Order) (s : Status) → OrdersImport host bytes (Ok o) → IsTrue (may_end_order o s) → EndsAs (Over o) 0 None held now s
   over_act o s orders it =
       let act = import_order host orders.0 in
       let at : IsTrue (may_end_order act s) = subst (λ (done : Order). IsTrue (may_end_order done s)) orders.2 it in
-      subst (λ (done : Order). EndsOver done held now s) (sym orders.2) at
+      subst (λ (done : Order). EndsAs (Over done) 0 None held now s) (sym orders.2) (inr (refl, at))
 
   pub command_ended : (o : Order) (r : Result Status Failure) → OrdersImport host bytes (Ok o)
       → Ended (λ s. IsTrue (may_end_order o s)) (is_of_sent o) r → EndsListed r
@@ -324,7 +317,11 @@ module _ (host : Text) (bytes : List ℕ) (held now : Option Text) where
 
   -- what it orders ends as a command may
   ordered_may : (ordered : Result Order ListFault) (s : Status) → OrdersImport host bytes ordered → EndsOrdered ordered held now s → IsTrue (may_end_single s)
-  ordered_may (Ok o) s orders ends = subst (λ (done : Order). EndsOver done held now s) orders.2 ends
+  ordered_may (Ok o) s orders ends = by (subst (λ (done : Order). EndsAs (Over done) 0 None held now s) orders.2 ends)
+    where
+      by : EndsAs (Over (import_order host orders.0)) 0 None held now s → IsTrue (may_end_single s)
+      by (inl bad) = absurd (true≢false (sym bad.0))
+      by (inr good) = good.1
   ordered_may (Err (listed.BadRecord number fault)) s orders (inl ends) = subst (λ (it : Status). IsTrue (may_end_single it)) (sym ends.0) refl
   ordered_may (Err (listed.BadRecord number fault)) s orders (inr is) = single_faulty s is
   ordered_may (Err listed.Memory) s orders ends = single_faulty s ends.1
@@ -333,9 +330,9 @@ module _ (host : Text) (bytes : List ℕ) (held now : Option Text) where
 pub unlisted : (host : Text) (bytes : List ℕ) (held : Option Text) → EndsListed host bytes held held (Err Memory)
 unlisted host bytes held = ((Err listed.Memory, tt, (refl, refl)), refl)
 
-module _ (host list : Text) (held now : Option Text) where
+module _ (host list : Text) (moment : ℕ) (left held now : Option Text) where
   abbrev EndsImport : Result Status Failure → Type 0
-  EndsImport r = Ended (EndsOver (order.Desk (desk.Import host list)) held now) (is_of_file (order.Desk (desk.Import host list))) r
+  EndsImport r = Ended (EndsAs (Over (order.Desk (desk.Import host list))) moment left held now) (is_of_file (order.Desk (desk.Import host list))) r
 
   command_may : (f : Failure) → MayEnd is_of_command f → MayEnd (is_of_file (order.Desk (desk.Import host list))) f
   command_may (File fault) it = refl
@@ -351,19 +348,19 @@ module _ (host list : Text) (held now : Option Text) where
 
   -- what the list orders ended so
   pub import_ended : (bytes : List ℕ) (r : Result Status Failure) → EndsListed host bytes held now r → EndsImport r
-  import_ended bytes (Ok status) it = (ordered_may host bytes held now it.0.0 status it.0.1 it.0.2, it.1)
-  import_ended bytes (Err f) it = (ordered_may host bytes held now it.0.0 (status_after f) it.0.1 it.0.2, command_may f it.1)
+  import_ended bytes (Ok status) it = (inr (refl, ordered_may host bytes held now it.0.0 status it.0.1 it.0.2), it.1)
+  import_ended bytes (Err f) it = (inr (refl, ordered_may host bytes held now it.0.0 (status_after f) it.0.1 it.0.2), command_may f it.1)
 
   list_may : (f : Failure) → MayEnd is_of_list f → EndsImport (Err f)
-  list_may (File fault) it = (refl, refl)
-  list_may (OfList fault) it = (refl, refl)
-  list_may Store it = (refl, it)
-  list_may Memory it = (refl, refl)
-  list_may Bind it = (refl, it)
-  list_may (Socket fault) it = (refl, it)
-  list_may (Control fault) it = (refl, refl)
-  list_may Write it = (refl, refl)
-  list_may (Script fault) it = (refl, it)
+  list_may (File fault) it = (inr (refl, refl), refl)
+  list_may (OfList fault) it = (inr (refl, refl), refl)
+  list_may Store it = (inr (refl, refl), it)
+  list_may Memory it = (inr (refl, refl), refl)
+  list_may Bind it = (inr (refl, refl), it)
+  list_may (Socket fault) it = (inr (refl, refl), it)
+  list_may (Control fault) it = (inr (refl, refl), refl)
+  list_may Write it = (inr (refl, refl), refl)
+  list_may (Script fault) it = (inr (refl, refl), it)
   list_may (Request fault) it = absurd (cc)
 
   -- the list was not read
@@ -387,17 +384,21 @@ module _ (words : List Text) where
   no_version asks = ap (λ b. line_asked (b || asks_help words) words) asks
 
   module _ (moment : ℕ) (left held now : Option Text) (s : Status) where
-    pub version_asked : asks_version words ≡ true → EndsVersion held now s → EndsWords moment words left held now s
-    version_asked asks it = let P : Bool → Type 0 = λ b. EndsFirst moment b words left held now s in subst P (sym asks) it
+    pub version_asked : asks_version words ≡ true → EndsVersion held now s → EndsUnlessCut (wanted (asks_version words) words) moment left held now s
+    version_asked asks it = let P : Bool → Type 0 = λ b. EndsUnlessCut (wanted b words) moment left held now s in subst P (sym asks) (inl it)
 
-    pub other_asked : asks_version words ≡ false → EndsAsked moment (asks_help words) words left held now s → EndsWords moment words left held now s
-    other_asked asks it = let P : Bool → Type 0 = λ b. EndsFirst moment b words left held now s in subst P (sym asks) it
+    pub other_asked
+        : asks_version words ≡ false → EndsUnlessCut (wanted_unless (asks_help words) words) moment left held now s
+        → EndsUnlessCut (wanted (asks_version words) words) moment left held now s
+    other_asked asks it = let P : Bool → Type 0 = λ b. EndsUnlessCut (wanted b words) moment left held now s in subst P (sym asks) it
 
     pub help_asked : (names : List Text) → asks_help words ≡ true → names ≡ drop 1 words
-        → EndsHelp (names ++ codes "--help" ∷ []) s → EndsAsked moment (asks_help words) words left held now s
+        → EndsHelp (names ++ codes "--help" ∷ []) s → EndsUnlessCut (wanted_unless (asks_help words) words) moment left held now s
     help_asked names asks same it =
-        let P : Bool → Type 0 = λ b. EndsAsked moment b words left held now s in
-        subst P (sym asks) (subst (λ n. EndsHelp (n ++ codes "--help" ∷ []) s) same it)
+        let P : Bool → Type 0 = λ b. EndsUnlessCut (wanted_unless b words) moment left held now s in
+        subst P (sym asks) (inl (subst (λ n. EndsHelp (n ++ codes "--help" ∷ []) s) same it))
 
-    pub line_asked_for : asks_help words ≡ false → EndsAsked moment false words left held now s → EndsAsked moment (asks_help words) words left held now s
-    line_asked_for asks it = let P : Bool → Type 0 = λ b. EndsAsked moment b words left held now s in subst P (sym asks) it
+    pub line_asked_for
+        : asks_help words ≡ false → EndsUnlessCut (wanted_of words (line_in words)) moment left held now s
+        → EndsUnlessCut (wanted_unless (asks_help words) words) moment left held now s
+    line_asked_for asks it = let P : Bool → Type 0 = λ b. EndsUnlessCut (wanted_unless b words) moment left held now s in subst P (sym asks) it

@@ -55,25 +55,6 @@ abbrev pub Ended : (Status → Type 0) → (Failure → Bool) → Result Status 
 Ended IsEnd is_of (Ok status) = IsEnd status × (is_failure_status status ≡ false)
 Ended IsEnd is_of (Err failure) = IsEnd (status_after failure) × IsTrue (may_fail is_of failure)
 
--- ---- without a file
-
--- 0: all lines of the script ran, from no project on, and what they print was written; 3: nothing was written, or the first
--- lines ran, and a front of what the next one prints may be written, too
-abbrev pub EndsScript : ℕ → Option Text → Option Text → Option Text → Status → Type 0
-EndsScript moment left held now Done = (after : World) × RunsScript {T = Status} {E = Status} moment left empty after held now (Ok Done)
-EndsScript moment left held now Faulty =
-    (now ≡ held) ⊎ ((after : World) × RunsScript {T = Status} {E = Status} moment left empty after held now (Err Faulty))
-EndsScript moment left held now _ = ⊥
-
--- 0: an answer over the sample, or a 503, was written; 4: the request got no whole reply; 3: nothing was written
-abbrev pub EndsRequest : ℕ → Option Text → Option Text → Option Text → Status → Type 0
-EndsRequest moment left held now Done =
-    (done : Answered) × WritesTold (AnswersSample moment left) held now (engine_told (Ok done))
-EndsRequest moment left held now Unanswered =
-    (fault : SampleFault) × WritesTold (AnswersSample moment left) held now (engine_told (Err fault))
-EndsRequest moment left held now Faulty = now ≡ held
-EndsRequest moment left held now _ = ⊥
-
 -- ---- which statuses a run can end with
 
 -- a run may end with 0 or 3
@@ -98,24 +79,60 @@ may_end_order (order.Program (program.Serve count port log wait)) status = may_e
 may_end_order (order.Program program.Answer) status = may_end_request status
 may_end_order _ status = may_end_single status
 
--- ---- over a file, by this run or by the server that has it
+-- ---- by what is wanted
 
--- a read of a bad target prints `bad target`, and is refused
-abbrev pub EndsBadTarget : Option Text → Option Text → Status → Type 0
-EndsBadTarget held now Refused = Appends held now (codes "bad target" ++ 10 ∷ [])
-EndsBadTarget held now status = status ≡ Faulty
+-- What the words ask for: the version; help on words, or what is wrong with them; an order over a file, or one without.
+pub data Wanted : Type 0 where
+  Version : Wanted
+  Help : (words : List Text) → Wanted
+  Over : (ordered : Order) → Wanted
+  Alone : (ordered : Order) → Wanted
 
-abbrev pub EndsChecked : Bool → Order → Option Text → Option Text → Status → Type 0
-EndsChecked true order held now status = EndsBadTarget held now status
-EndsChecked false order held now status = IsTrue (may_end_order order status)
+-- 0 comes only where `clap` finds that the words ask for help; else 2 or 3
+abbrev pub EndsHelp : List Text → Status → Type 0
+EndsHelp words Done = IsAmong DisplayHelp (fault_of docs_app words)
+EndsHelp words Usage = ⊤
+EndsHelp words Faulty = ⊤
+EndsHelp words _ = ⊥
 
-abbrev pub EndsOver : Order → Option Text → Option Text → Status → Type 0
-EndsOver order = EndsChecked (has_bad_target order) order
+-- 0: the version was written; 3: a failure
+abbrev pub EndsVersion : Option Text → Option Text → Status → Type 0
+EndsVersion held now Done = Appends held now (codes "docs_host 0.1.0" ++ 10 ∷ [])
+EndsVersion held now Faulty = ⊤
+EndsVersion held now _ = ⊥
+
+-- How a run may end, by what was wanted and by what came of it. Over a file, by this run or by the server that has it: a read of
+-- a bad target prints `bad target`, and is refused, or failed; any other order ends with a status that it may end with. Without
+-- a file: of a script all lines ran, from no project on, and what they print was written; or, with 3, nothing was written, or the
+-- first lines ran, and a front of what the next one prints may be written, too. Of a request an answer over the sample, or a 503,
+-- was written; or, with 4, it got no whole reply; or, with 3, nothing was written. A file is made or migrated, and nothing is
+-- written. Each other order is a mistake without a file.
+abbrev pub EndsAs : Wanted → ℕ → Option Text → Option Text → Option Text → Status → Type 0
+EndsAs Version moment left held now status = EndsVersion held now status
+EndsAs (Help words) moment left held now status = EndsHelp words status
+EndsAs (Over ordered) moment left held now status =
+    ((has_bad_target ordered ≡ true) × ((status ≡ Faulty) ⊎ ((status ≡ Refused) × Appends held now (codes "bad target" ++ 10 ∷ []))))
+    ⊎ ((has_bad_target ordered ≡ false) × IsTrue (may_end_order ordered status))
+EndsAs (Alone (order.Program program.Script)) moment left held now Done =
+    (after : World) × RunsScript {T = Status} {E = Status} moment left empty after held now (Ok Done)
+EndsAs (Alone (order.Program program.Script)) moment left held now Faulty =
+    (now ≡ held) ⊎ ((after : World) × RunsScript {T = Status} {E = Status} moment left empty after held now (Err Faulty))
+EndsAs (Alone (order.Program program.Script)) moment left held now _ = ⊥
+EndsAs (Alone (order.Program program.Answer)) moment left held now Done =
+    (done : Answered) × WritesTold (AnswersSample moment left) held now (engine_told (Ok done))
+EndsAs (Alone (order.Program program.Answer)) moment left held now Unanswered =
+    (fault : SampleFault) × WritesTold (AnswersSample moment left) held now (engine_told (Err fault))
+EndsAs (Alone (order.Program program.Answer)) moment left held now Faulty = now ≡ held
+EndsAs (Alone (order.Program program.Answer)) moment left held now _ = ⊥
+EndsAs (Alone (order.File ordered)) moment left held now status = (now ≡ held) × IsTrue (may_end status)
+EndsAs (Alone ordered) moment left held now status = (now ≡ held) × (status ≡ Usage)
+
+-- ---- an import, and a mistake
 
 -- how an import ended: its command ended so; or the list's bad record was told, and refused, or the run failed; or memory was
 -- out, and nothing was written
 abbrev pub EndsOrdered : Result Order ListFault → Option Text → Option Text → Status → Type 0
-EndsOrdered (Ok order) held now status = EndsOver order held now status
+EndsOrdered (Ok order) held now status = EndsAs (Over order) 0 None held now status
 EndsOrdered (Err (list.BadRecord number fault)) held now status =
     ((status ≡ Refused) × Appends held now (bad_record number ++ 10 ∷ [])) ⊎ (status ≡ Faulty)
 EndsOrdered (Err list.Memory) held now status = (now ≡ held) × (status ≡ Faulty)
@@ -126,26 +143,6 @@ EndsList host bytes held now status =
     (ordered : Result Order ListFault) × OrdersImport host bytes ordered
     × EndsOrdered ordered held now status
 
--- ---- by the words
-
--- without a file, a command, a read, a list, an import and a server are mistakes
-abbrev pub EndsWithoutFile : ℕ → Order → Option Text → Option Text → Option Text → Status → Type 0
-EndsWithoutFile moment (order.Program program.Script) left held now status = EndsScript moment left held now status
-EndsWithoutFile moment (order.Program program.Answer) left held now status = EndsRequest moment left held now status
-EndsWithoutFile moment (order.File ordered) left held now status = (now ≡ held) × IsTrue (may_end status)
-EndsWithoutFile moment _ left held now status = (now ≡ held) × (status ≡ Usage)
-
-abbrev pub EndsBy : ℕ → Option Text → Order → Option Text → Option Text → Option Text → Status → Type 0
-EndsBy moment None order left held now status = EndsWithoutFile moment order left held now status
-EndsBy moment (Some file) order left held now status = EndsOver order held now status
-
--- 0 comes only where `clap` finds that the words ask for help; else 2 or 3
-abbrev pub EndsHelp : List Text → Status → Type 0
-EndsHelp words Done = IsAmong DisplayHelp (fault_of docs_app words)
-EndsHelp words Usage = ⊤
-EndsHelp words Faulty = ⊤
-EndsHelp words _ = ⊥
-
 -- what is told of words that are no line: help where `clap`'s error is that, and else a mistake
 abbrev pub EndsError : ErrorKind → Result Status Failure → Type 0
 EndsError kind (Ok Done) = kind ≡ DisplayHelp
@@ -153,16 +150,7 @@ EndsError kind (Ok Usage) = ⊤
 EndsError kind (Ok status) = ⊥
 EndsError kind (Err failure) = IsTrue (may_fail is_of_output failure)
 
--- how the run of the words' line ended; for words that are no line, help or a mistake
-abbrev pub EndsLine : ℕ → Option Line → List Text → Option Text → Option Text → Option Text → Status → Type 0
-EndsLine moment None words left held now status = EndsHelp words status
-EndsLine moment (Some line) words left held now status = EndsBy moment line.store line.order left held now status
-
--- 0: the version was written; 3: a failure
-abbrev pub EndsVersion : Option Text → Option Text → Status → Type 0
-EndsVersion held now Done = Appends held now (codes "docs_host 0.1.0" ++ 10 ∷ [])
-EndsVersion held now Faulty = ⊤
-EndsVersion held now _ = ⊥
+-- ---- by the words
 
 abbrev pub asks_version : List Text → Bool
 asks_version [] = false
@@ -180,24 +168,33 @@ line_asked false words = line_in words
 abbrev pub line_run : List Text → Option Line
 line_run words = line_asked (asks_version words || asks_help words) words
 
--- the first word is `help`, and the words behind it ask for help as with `--help`; or the words' line ended so; or with 3, and
--- nothing was written
-abbrev pub EndsAsked : ℕ → Bool → List Text → Option Text → Option Text → Option Text → Status → Type 0
-EndsAsked moment true words left held now status = EndsHelp (drop 1 words ++ codes "--help" ∷ []) status
-EndsAsked moment false words left held now status =
-    EndsLine moment (line_in words) words left held now status ⊎ ((now ≡ held) × (status ≡ Faulty))
+-- an order, by whether there is a file
+abbrev pub ordered_at : Option Text → Order → Wanted
+ordered_at None ordered = Alone ordered
+ordered_at (Some file) ordered = Over ordered
 
--- the first word is `--version`, and the version was written, or 3; or the words ended so
-abbrev pub EndsFirst : ℕ → Bool → List Text → Option Text → Option Text → Option Text → Status → Type 0
-EndsFirst moment true words left held now status = EndsVersion held now status
-EndsFirst moment false words left held now status = EndsAsked moment (asks_help words) words left held now status
+-- the order of a line; of words that are no line, help or a mistake
+abbrev pub wanted_of : List Text → Option Line → Wanted
+wanted_of words None = Help words
+wanted_of words (Some line) = ordered_at line.store line.order
 
-abbrev pub EndsWords : ℕ → List Text → Option Text → Option Text → Option Text → Status → Type 0
-EndsWords moment words = EndsFirst moment (asks_version words) words
+-- where the first word is `help`, the words behind it ask for help as with `--help`
+abbrev pub wanted_unless : Bool → List Text → Wanted
+wanted_unless true words = Help (drop 1 words ++ codes "--help" ∷ [])
+wanted_unless false words = wanted_of words (line_in words)
+
+-- what the words ask for: the version where the first of them is `--version`
+abbrev pub wanted : Bool → List Text → Wanted
+wanted true words = Version
+wanted false words = wanted_unless (asks_help words) words
+
+-- the run ended as what was wanted may; or with 3, and nothing was written
+abbrev pub EndsUnlessCut : Wanted → ℕ → Option Text → Option Text → Option Text → Status → Type 0
+EndsUnlessCut it moment left held now status = EndsAs it moment left held now status ⊎ ((now ≡ held) × (status ≡ Faulty))
 
 -- the exit status is that of an end that these words may have, and `IsTold` holds of that end
 pub record EndsProgram (moment : ℕ) (words : List Text) (left held now : Option Text) (IsTold : Status → Type 0) (code : ℕ) : Type 0 where
   pub status : Status
   pub told : code ≡ exit_code status
-  pub ends : EndsWords moment words left held now status
+  pub ends : EndsUnlessCut (wanted (asks_version words) words) moment left held now status
   pub errors : IsTold status

@@ -3,8 +3,8 @@
 ghost use Rattle.std.specs.Prelude.{◌≡◌, true, false, map, drop, string_bytes, option_map, IfOk, IsTrue, MatchOption, Some};
 ghost use Rattle.dh_server.specs.Telling.{TellsSome};
 ghost use Rattle.dh_lines.specs.Lines.{line_in};
-ghost use Rattle.dh_telling.specs.Ends.{Ended, EndsScript, EndsRequest, EndsOver, EndsList, EndsBy};
-ghost use Rattle.dh_telling.specs.Ends.{EndsAsked, EndsWords, EndsProgram};
+ghost use Rattle.dh_telling.specs.Ends.{Ended, EndsAs, EndsList, EndsProgram, EndsUnlessCut};
+ghost use Rattle.dh_telling.specs.Ends.{Over, Alone, ordered_at, wanted, wanted_of, wanted_unless};
 ghost use Rattle.dh_telling.specs.Ends.{asks_help, asks_version, line_asked, line_run, may_end_order};
 ghost use Rattle.dh_telling.specs.Failing.{IsDoneOr, is_of_init, is_of_file, is_of_command, is_of_memory, is_of_opened, is_of_run, is_of_sent};
 ghost use Rattle.dh_telling.specs.Orders as spec;
@@ -155,7 +155,8 @@ fn serve_file<S: Start, C: FnMut() -> u64, R: Source, W: Sink, E: Sink>(
     requires callable { C.IsAlwaysCallable clock.old }
     requires ready { AreUnbroken (R.broken streams.old.source) (W.broken streams.old.sink) }
     requires good { spec.has_bad_target order.now ≡ false }
-    ensures ends { Ended (EndsOver order.now (W.held streams.old.sink) (W.held streams.new.sink))
+    ensures ends { Ended (EndsAs (Over order.now) now
+        (R.left streams.old.source) (W.held streams.old.sink) (W.held streams.new.sink))
         (is_of_file order.now) result }
     ensures tells { TellsSome E.broken E.held streams.old.errors streams.new.errors }
 {
@@ -183,7 +184,8 @@ fn run_over_file<S: Start, C: FnMut() -> u64, R: Source, W: Sink, E: Sink>(
 ) -> Result<Status, Failure>
     requires callable { C.IsAlwaysCallable clock.old }
     requires ready { AreUnbroken (R.broken streams.old.source) (W.broken streams.old.sink) }
-    ensures ends { Ended (EndsOver order.now (W.held streams.old.sink) (W.held streams.new.sink))
+    ensures ends { Ended (EndsAs (Over order.now) now
+        (R.left streams.old.source) (W.held streams.old.sink) (W.held streams.new.sink))
         (is_of_file order.now) result }
     ensures tells { TellsSome E.broken E.held streams.old.errors streams.new.errors }
 {
@@ -215,7 +217,8 @@ fn run_in_memory<R: Source, W: Sink, E: Sink>(
     now: u64,
 ) -> Result<Status, Failure>
     requires ready { AreUnbroken (R.broken source.old) (W.broken sink.old) }
-    ensures ends { Ended (EndsScript now (R.left source.old) (W.held sink.old) (W.held sink.new))
+    ensures ends { Ended (EndsAs (Alone (Order.Program ProgramOrder.Script)) now
+        (R.left source.old) (W.held sink.old) (W.held sink.new))
         (is_of_memory (Order.Program ProgramOrder.Script)) result }
     ensures tells { TellsSome E.broken E.held errors.old errors.new }
 {
@@ -231,7 +234,8 @@ fn answer_over_sample<R: Source, W: Sink>(
     now: u64,
 ) -> Result<Status, Failure>
     requires ready { AreUnbroken (R.broken source.old) (W.broken sink.old) }
-    ensures { Ended (EndsRequest now (R.left source.old) (W.held sink.old) (W.held sink.new))
+    ensures { Ended (EndsAs (Alone (Order.Program ProgramOrder.Answer)) now
+        (R.left source.old) (W.held sink.old) (W.held sink.new))
         (is_of_memory (Order.Program ProgramOrder.Answer)) result }
 {
     answer_sample(alloc, source, sink, now)?;
@@ -296,8 +300,8 @@ fn import<S: Start, C: FnMut() -> u64, R: Source, W: Sink, E: Sink>(
 ) -> Result<Status, Failure>
     requires callable { C.IsAlwaysCallable clock.old }
     requires ready { AreUnbroken (R.broken streams.old.source) (W.broken streams.old.sink) }
-    ensures ends { Ended (EndsOver (Order.Desk (DeskOrder.Import host.now list.now))
-        (W.held streams.old.sink) (W.held streams.new.sink))
+    ensures ends { Ended (EndsAs (Over (Order.Desk (DeskOrder.Import host.now list.now))) now
+        (R.left streams.old.source) (W.held streams.old.sink) (W.held streams.new.sink))
         (is_of_file (Order.Desk (DeskOrder.Import host.now list.now))) result }
     ensures tells { TellsSome E.broken E.held streams.old.errors streams.new.errors }
 {
@@ -321,7 +325,7 @@ fn run_line<S: Start, C: FnMut() -> u64, R: Source, W: Sink, E: Sink>(
 ) -> Result<Status, Failure>
     requires callable { C.IsAlwaysCallable clock.old }
     requires ready { AreUnbroken (R.broken streams.old.source) (W.broken streams.old.sink) }
-    ensures ends { Ended (EndsBy now line.now.store line.now.order
+    ensures ends { Ended (EndsAs (ordered_at line.now.store line.now.order) now
         (R.left streams.old.source) (W.held streams.old.sink) (W.held streams.new.sink))
         (is_of_run line.now.store line.now.order) result }
     ensures tells { TellsSome E.broken E.held streams.old.errors streams.new.errors }
@@ -407,7 +411,7 @@ fn run_and_tell<S: Start, C: FnMut() -> u64, R: Source, W: Sink, E: Sink>(
 ) -> Status
     requires callable { C.IsAlwaysCallable clock.old }
     requires ready { AreUnbroken (R.broken streams.old.source) (W.broken streams.old.sink) }
-    ensures ends { EndsBy now line.now.store line.now.order
+    ensures ends { EndsAs (ordered_at line.now.store line.now.order) now
         (R.left streams.old.source) (W.held streams.old.sink) (W.held streams.new.sink) result }
     ensures told { TellsEnd E.broken E.held (Some line.now)
         streams.old.errors streams.new.errors result }
@@ -429,8 +433,8 @@ fn run_line_of_words<S: Start, C: FnMut() -> u64, R: Source, W: Sink, E: Sink>(
 ) -> Status
     requires callable { C.IsAlwaysCallable clock.old }
     requires ready { AreUnbroken (R.broken streams.old.source) (W.broken streams.old.sink) }
-    ensures ends { EndsAsked now false (map string_bytes words.now)
-        (R.left streams.old.source) (W.held streams.old.sink) (W.held streams.new.sink) result }
+    ensures ends { EndsUnlessCut (wanted_of (map string_bytes words.now)
+        (line_in (map string_bytes words.now))) now (R.left streams.old.source) (W.held streams.old.sink) (W.held streams.new.sink) result }
     ensures told { TellsEnd E.broken E.held (line_in (map string_bytes words.now))
         streams.old.errors streams.new.errors result }
 {
@@ -472,8 +476,8 @@ fn tell_help_or_run<S: Start, C: FnMut() -> u64, R: Source, W: Sink, E: Sink>(
 ) -> Status
     requires callable { C.IsAlwaysCallable clock.old }
     requires ready { AreUnbroken (R.broken streams.old.source) (W.broken streams.old.sink) }
-    ensures ends { EndsAsked now (asks_help (map string_bytes words.now))
-        (map string_bytes words.now) (R.left streams.old.source)
+    ensures ends { EndsUnlessCut (wanted_unless (asks_help (map string_bytes words.now))
+        (map string_bytes words.now)) now (R.left streams.old.source)
         (W.held streams.old.sink) (W.held streams.new.sink) result }
     ensures told { TellsEnd E.broken E.held
         (line_asked (asks_help (map string_bytes words.now)) (map string_bytes words.now))
@@ -496,8 +500,8 @@ fn tell_version_or_run<S: Start, C: FnMut() -> u64, R: Source, W: Sink, E: Sink>
 ) -> Status
     requires callable { C.IsAlwaysCallable clock.old }
     requires ready { AreUnbroken (R.broken streams.old.source) (W.broken streams.old.sink) }
-    ensures ends { EndsWords now (map string_bytes words.now)
-        (R.left streams.old.source) (W.held streams.old.sink) (W.held streams.new.sink) result }
+    ensures ends { EndsUnlessCut (wanted (asks_version (map string_bytes words.now))
+        (map string_bytes words.now)) now (R.left streams.old.source) (W.held streams.old.sink) (W.held streams.new.sink) result }
     ensures told { TellsEnd E.broken E.held (line_run (map string_bytes words.now))
         streams.old.errors streams.new.errors result }
 {

@@ -4,7 +4,7 @@ use Rattle.docs_host.proofs.program.import_over_file.Goals as goal
 
 pub returns-in-Ok-clause-ends : goal.returns-in-Ok-clause-ends
 returns-in-Ok-clause-ends g c =
-    as_sent (g.W.Sink.held c.args.streams.now.sink) (g.W.Sink.held c.run_over_desk.new.streams.sink) c.args.order.now
+    as_sent c.args.now (g.R.Source.left c.args.streams.now.source) (g.W.Sink.held c.args.streams.now.sink) (g.W.Sink.held c.run_over_desk.new.streams.sink) c.args.order.now
     c.run_over_desk.result c.run_over_desk.ensures.ends
 
 pub returns-in-Err-Busy-clause-ends : goal.returns-in-Err-Busy-clause-ends
