@@ -12,7 +12,7 @@ use Rattle.dh_seen.specs.declared.found.Named.{Named}
 use Rattle.dh_seen.specs.SeenProject.{own_name, alias_to, resolved}
 use Rattle.dh_world.specs.World.{Text, Project}
 use Rattle.dh_world.specs.Visibility.{may_see}
-use Rattle.dh_world.specs.Seen.{default_of, without_default}
+use Rattle.dh_world.specs.Seen.{default_of, as_seen}
 use Rattle.dh_classes.specs.Classes.{class_holds, versions_for, seen_by}
 use Rattle.dh_aliases.specs.Tops.{Versions, AreNamed, stable_in}
 use Rattle.dh_aliases.specs.declared.names.Names.{Names}
@@ -35,7 +35,7 @@ abbrev listed_names : Versions → Text → List Text → Names
 listed_names m branch defaults = record { latest = listed_latest m branch; stable = stable_in m; «default» = default_of (listed_stands m branch) defaults }
 
 pub names_by_versions : (p : Project) (class : Option Text) → names_of p class ≡ listed_names (versions_for p class) p.branch p.defaults
-unfolding seen_by without_default resolved
+unfolding seen_by as_seen resolved
 names_by_versions p class = refl
 
 -- the same versions have the same names

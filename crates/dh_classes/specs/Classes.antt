@@ -7,7 +7,7 @@ use Rattle.dh_seen.specs.declared.seen_project.SeenProject.{SeenProject}
 use Rattle.dh_world.specs.declared.caller.Caller.{Caller}
 use Rattle.dh_world.specs.World.{Text, text_cmp, Project}
 use Rattle.dh_world.specs.Visibility.{live_pass, holds, may_see}
-use Rattle.dh_world.specs.Seen.{without_default, with_default}
+use Rattle.dh_world.specs.Seen.{as_seen}
 
 -- the class of a caller: the pass that he shows, where the project has it and it is live at his moment, or none
 abbrev pub class_of : Project → Caller → Option Text
@@ -29,4 +29,4 @@ versions_for p class = retain_keys p.versions (sees p class)
 unfoldable pub seen_by : Project → Option Text → SeenProject
 seen_by p class =
     let pages = retain_keys p.pages (λ key. sees p class key.0) in
-    with_default (without_default p.languages p.branch (versions_for p class) pages p.redirects) p.defaults
+    as_seen p.languages p.branch (versions_for p class) pages p.redirects p.defaults

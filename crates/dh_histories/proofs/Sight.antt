@@ -17,7 +17,7 @@ use Rattle.dh_seen.specs.SeenProject.{resolved, own_name, alias_of, alias_to}
 use Rattle.dh_world.specs.declared.caller.Caller.{Caller}
 use Rattle.dh_world.specs.World.{Text, text_cmp, Project}
 use Rattle.dh_world.specs.Visibility.{live_pass, holds, may_see, is_visible}
-use Rattle.dh_world.specs.Seen.{default_of, visible_versions, visible_pages, without_default, with_default, seen_project}
+use Rattle.dh_world.specs.Seen.{default_of, visible_versions, visible_pages, as_seen, seen_project}
 use Rattle.dh_world.proofs.MapLemmas.{tied_text, text_total, page_total, page_exact, held_exact}
 use Rattle.dh_histories.specs.Purge.{SlugSet, stripped, AreFiled}
 use Rattle.dh_histories.proofs.MapEdits.{get_retained, get_passing, of_wider}
@@ -98,11 +98,11 @@ module _ (p : Project) (c : Caller) (filed : AreFiled p) where
 
   -- what the caller sees, but for the default
   abbrev undecided : SeenProject
-  undecided = without_default p.languages p.branch (visible_versions p c) (visible_pages p c) p.redirects
+  undecided = record (as_seen p.languages p.branch (visible_versions p c) (visible_pages p c) p.redirects []) { «default» = None }
 
   -- a name that is no alias and no visible version's stands for nothing
   unresolved : (name : Text) → is_visible p c name ≡ false → bytes_eq name (codes "latest") ≡ false → bytes_eq name (codes "stable") ≡ false → is_some (resolved undecided name) ≡ false
-  unfolding resolved without_default
+  unfolding resolved as_seen
   unresolved name unseen latest stable =
       let m = visible_versions p c in
       ap (λ o. is_some (option_or (option_map own_name o) (alias_of undecided name)))
@@ -171,7 +171,7 @@ module _ (p : Project) (c : Caller) (filed : AreFiled p) where
         ∙ of_wider page_exact page_total (λ key. is_visible p c key.0) p.pages (λ key. not (purged key.0)) (λ key. seen_is_left key.0)
 
     pub same_seen : seen_project left_of_p c ≡ seen_project p c
-    unfolding seen_project
+    unfolding seen_project as_seen
     same_seen =
-        (λ i. with_default (without_default p.languages p.branch (same_versions i) (same_pages i) p.redirects) (filter (λ name. not (purged name)) p.defaults))
+        (λ i. as_seen p.languages p.branch (same_versions i) (same_pages i) p.redirects (filter (λ name. not (purged name)) p.defaults))
         ∙ ap (λ d. record undecided { «default» = d }) (default_of_left (λ name. is_some (resolved undecided name)) (λ name. not (purged name)) passed_over p.defaults)

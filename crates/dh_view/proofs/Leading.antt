@@ -18,7 +18,7 @@ use Rattle.dh_segments.specs.Segments.{first_segment, is_tried, segment_of}
 use Rattle.dh_segments.proofs.SegmentLemmas.{others_lead_nowhere}
 use Rattle.dh_world.specs.World.{Text}
 use Rattle.dh_world.specs.declared.caller.Caller.{Caller}
-use Rattle.dh_world.specs.Seen.{seen_project, without_default}
+use Rattle.dh_world.specs.Seen.{seen_project, as_seen}
 use Rattle.dh_world.proofs.MapLemmas.{find_in_filter}
 use Rattle.dh_records.specs.Lists.{Lists, is_redirect_of, is_route_in, placed, project_of, route_row, world_of}
 use Rattle.dh_records.specs.declared.records.ProjectRow.{ProjectRow}
@@ -335,7 +335,7 @@ module _ (l : Lists) (host : Text) (forced : Bool) (asked : Asked) where
 -- what the rows of a host tell is where its redirects lead
 pub routes_lead : (l : Lists) (row : ProjectRow) (c : Caller) (host : Text) (forced : Bool) (asked : Asked) → row.host ≡ host → IsRightIn l host → get (world_of l) host ≡ Some (project_of l row)
     → option_map (λ (led : Led). led.1) (best_at l host forced asked) ≡ first_result forced (seen_project (project_of l row) c).redirects asked
-unfolding seen_project without_default project_of
+unfolding seen_project as_seen project_of
 routes_lead l row c host forced asked own right known =
     let same : map (λ r. r.redirect) (filter (is_redirect_of row.host) l.redirects) ≡ redirects_of l host forced asked = ap (λ h. map (λ (r : RedirectRow). r.redirect) (filter (is_redirect_of h) l.redirects)) own in
     best_is_first l host forced asked right row known same ∙ ap (λ rs. first_result forced rs asked) (sym same)

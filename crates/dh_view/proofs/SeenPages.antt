@@ -13,7 +13,7 @@ use Rattle.dh_seen.specs.declared.seen_project.StoredPage.{StoredPage}
 use Rattle.dh_world.specs.declared.caller.Caller.{Caller}
 use Rattle.dh_world.specs.World.{Text, PageKey, page_cmp, Project}
 use Rattle.dh_world.specs.Visibility.{is_visible}
-use Rattle.dh_world.specs.Seen.{seen_project, without_default, visible_pages, stored_page}
+use Rattle.dh_world.specs.Seen.{seen_project, as_seen, visible_pages, stored_page}
 use Rattle.dh_world.proofs.MapLemmas.{page_total, page_exact}
 use Rattle.dh_records.specs.Lists.{Lists, project_of, is_page_in, is_redirect_of}
 use Rattle.dh_records.specs.declared.records.PageRow.{PageRow}
@@ -113,7 +113,7 @@ module _ (lists : Lists) (row : ProjectRow) (c : Caller) (slug lang : Text) wher
   entries_are up = entries_of page_total page_exact (pages_of lists row.host) (held _ up)
 
   shown_pages : (seen_project told c).pages ≡ map stored_page (entries (visible_pages told c))
-  unfolding seen_project without_default
+  unfolding seen_project as_seen
   shown_pages = refl
 
   seen_pages : filter lies (seen_project told c).pages ≡ map stored_page (filter lying (filter in_sight (entries told.pages)))
@@ -200,5 +200,5 @@ module _ (lists : Lists) (o : Option Text) (c : Caller) (name lang : Text) where
 
 pub redirects_under : (lists : Lists) (row : ProjectRow) (c : Caller) (host : Text) → row.host ≡ host
     → map (λ r. r.redirect) (filter (is_redirect_of host) lists.redirects) ≡ (seen_project (project_of lists row) c).redirects
-unfolding seen_project without_default project_of
+unfolding seen_project as_seen project_of
 redirects_under lists row c host own = ap (λ h. map (λ (r : RedirectRow). r.redirect) (filter (is_redirect_of h) lists.redirects)) (sym own)

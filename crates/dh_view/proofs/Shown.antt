@@ -24,7 +24,7 @@ use Rattle.dh_world.specs.declared.caller.Caller.{Caller}
 use Rattle.dh_world.specs.World.{Text, text_cmp, Project}
 use Rattle.dh_world.specs.Visibility.{live_pass, holds, is_visible, may_see}
 use Rattle.dh_records.specs.Lists.{Lists, project_of, world_of, is_project, is_version, is_version_of, is_page, is_lang_of, is_pick_of, is_redirect_of}
-use Rattle.dh_world.specs.Seen.{seen_project, without_default, default_of, visible_versions}
+use Rattle.dh_world.specs.Seen.{seen_project, as_seen, default_of, visible_versions}
 use Rattle.dh_classes.specs.Classes as classes
 use Rattle.dh_classes.specs.Classes.{class_holds, class_of, versions_for}
 use Rattle.dh_records.specs.Constraints as constraint
@@ -121,7 +121,7 @@ alias_name s = record { slug = s; alias = true }
 
 pub resolved_is : (lists : Lists) (row : ProjectRow) (c : Caller) (name : Text) → let p = project_of lists row in
     resolved (seen_project p c) name ≡ option_or (option_map own_name (get (visible_versions p c) name)) (alias_of (seen_project p c) name)
-unfolding resolved seen_project without_default
+unfolding resolved seen_project as_seen
 resolved_is lists row c name =
     let m = visible_versions (project_of lists row) c in
     ap (λ o. option_or (option_map own_name o) (alias_of (seen_project (project_of lists row) c) name)) (found_version name (entries m) (own_keys lists row c) ∙ sym (get-entries m name))
@@ -243,7 +243,7 @@ some_shown c None = refl
 some_shown c (Some p) = refl
 
 pub langs_shown : (p : Project) (c : Caller) → p.languages ≡ (seen_project p c).langs
-unfolding seen_project without_default
+unfolding seen_project as_seen
 langs_shown p c = refl
 
 -- ---- what stands under a host
@@ -312,7 +312,7 @@ languages_shown lists o c = go (project_in lists o)
 -- what is read by the host and the class alone is that of the project to its caller
 module _ (lists : Lists) (row : ProjectRow) (c : Caller) (host : Text) (own : row.host ≡ host) (class : Option Text) (of_class : class_of (project_of lists row) c ≡ class) where
   pub versions_under : RiseBySlug (filter (is_version_of host) lists.versions) → versions_in lists host class ≡ (seen_project (project_of lists row) c).versions
-  unfolding seen_project without_default project_of
+  unfolding seen_project as_seen project_of
   versions_under up =
       ap (λ h. versions_in lists h class) (sym own) ∙ ap (versions_in lists row.host) (sym of_class)
       ∙ values_are lists row c (filter (is_shown lists row c) (filter (is_version_of row.host) lists.versions)) (subst (λ h. RiseBySlug (filter (is_version_of h) lists.versions)) (sym own) up) refl

@@ -11,7 +11,7 @@ use Rattle.dh_seen.specs.SeenProject.{stands_at, page_at}
 use Rattle.dh_world.specs.declared.caller.Caller.{Caller}
 use Rattle.dh_world.specs.World.{Text, PageKey, page_cmp, Project}
 use Rattle.dh_world.specs.Visibility.{is_visible}
-use Rattle.dh_world.specs.Seen.{seen_project, without_default, visible_pages, stored_page}
+use Rattle.dh_world.specs.Seen.{seen_project, as_seen, visible_pages, stored_page}
 use Rattle.dh_world.proofs.MapLemmas.{tied_page, page_exact}
 
 shown_page : (lang slug path : Text) (es : List (PageKey × Page)) → option_map (λ (s : StoredPage). s.page) (find (stands_at lang slug path) (map stored_page es)) ≡ finite.find page_cmp (slug, (lang, path)) es
@@ -29,7 +29,7 @@ shown_page lang slug path (e ∷ es) =
 
 -- the page of a visible version
 pub seen_page : (p : Project) (c : Caller) (lang slug path : Text) → page_at (seen_project p c) lang slug path ≡ cond (is_visible p c slug) (get p.pages (slug, (lang, path))) None
-unfolding page_at seen_project without_default
+unfolding page_at seen_project as_seen
 seen_page p c lang slug path =
     shown_page lang slug path (entries (visible_pages p c)) ∙ sym (get-entries (visible_pages p c) (slug, (lang, path)))
     ∙ get-retain_keys p.pages (λ key. is_visible p c key.0) (slug, (lang, path)) (λ x t. ap (λ (k : PageKey). is_visible p c k.0) (sym (page_exact (slug, (lang, path)) x t)))

@@ -13,7 +13,7 @@ use Rattle.dh_seen.specs.SeenProject.{resolved}
 use Rattle.dh_world.specs.declared.caller.Caller.{Caller}
 use Rattle.dh_world.specs.World.{Text, text_cmp, Project, World}
 use Rattle.dh_world.specs.Visibility.{is_before, is_live, live_pass, holds, may_see, is_visible}
-use Rattle.dh_world.specs.Seen.{default_of, visible_versions, visible_pages, without_default, with_default, seen_project, seen, is_alias, is_own_pass, is_seen_name, veiled, alone, veil}
+use Rattle.dh_world.specs.Seen.{default_of, visible_versions, visible_pages, as_seen, seen_project, seen, is_alias, is_own_pass, is_seen_name, veiled, alone, veil}
 use Rattle.dh_world.proofs.MapLemmas.{tied_text, text_total, page_total, page_exact, held_exact}
 
 -- ---- maps of which a test of the keys keeps a part
@@ -89,11 +89,11 @@ default_filter resolves keep h (n ∷ names) = go (keep n) refl (default_filter 
 
 module _ (p : Project) (c : Caller) where
   abbrev undecided : SeenProject
-  undecided = without_default p.languages p.branch (visible_versions p c) (visible_pages p c) p.redirects
+  undecided = record (as_seen p.languages p.branch (visible_versions p c) (visible_pages p c) p.redirects []) { «default» = None }
 
   -- what a name stands for does not go by the default
   same_name : (name : Text) → resolved (seen_project p c) name ≡ resolved undecided name
-  unfolding seen_project resolved
+  unfolding seen_project as_seen resolved
   same_name name = refl
 
   passed_over : (name : Text) → is_seen_name p c name ≡ false → is_some (resolved undecided name) ≡ false
@@ -114,9 +114,9 @@ module _ (p : Project) (c : Caller) where
       ∙ retain_wider page_exact page_total p.pages (λ key. is_visible p c key.0) (λ key. is_visible p c key.0) (λ key e. e)
 
   seen_veiled : seen_project (veiled p c) c ≡ seen_project p c
-  unfolding seen_project
+  unfolding seen_project as_seen
   seen_veiled =
-      (λ i. with_default (without_default p.languages p.branch (same_versions i) (same_pages i) p.redirects) (filter (is_seen_name p c) p.defaults))
+      (λ i. as_seen p.languages p.branch (same_versions i) (same_pages i) p.redirects (filter (is_seen_name p c) p.defaults))
       ∙ ap (λ d. record undecided { «default» = d }) (default_filter (λ name. is_some (resolved undecided name)) (is_seen_name p c) passed_over p.defaults)
 
 -- ---- worlds

@@ -34,24 +34,23 @@ visible_pages p caller = retain_keys p.pages (λ key. is_visible p caller key.0)
 abbrev pub stored_page : PageKey × Page → StoredPage
 stored_page e = record { lang = e.0.1.0; slug = e.0.0; path = e.0.1.1; page = e.1 }
 
--- a project as seen, from its languages, default branch, versions, pages and redirects; the default is left open
-unfoldable pub without_default : List Text → Text → FinMap text_cmp Version → FinMap page_cmp Page → List Redirect → SeenProject
-without_default languages branch versions pages redirects = record {
-  langs = languages;
-  versions = values versions;
-  pages = map stored_page (entries pages);
-  latest = option_and_then (slice_get (keys versions)) (latest_of (values versions) branch);
-  stable = option_and_then (slice_get (keys versions)) (stable_of (values versions));
-  «default» = None;
-  redirects = redirects;
-}
-
-abbrev pub with_default : SeenProject → List Text → SeenProject
-with_default p names = record p { «default» = default_of (λ name. is_some (resolved p name)) names }
+-- a project as seen, from its languages, default branch, versions, pages, redirects, and the names of its defaults
+unfoldable pub as_seen : List Text → Text → FinMap text_cmp Version → FinMap page_cmp Page → List Redirect → List Text → SeenProject
+as_seen languages branch versions pages redirects names =
+    let p : SeenProject = record {
+      langs = languages;
+      versions = values versions;
+      pages = map stored_page (entries pages);
+      latest = option_and_then (slice_get (keys versions)) (latest_of (values versions) branch);
+      stable = option_and_then (slice_get (keys versions)) (stable_of (values versions));
+      «default» = None;
+      redirects = redirects;
+    } in
+    record p { «default» = default_of (λ name. is_some (resolved p name)) names }
 
 -- the project as this caller sees it: the versions visible to him with their pages, and no list of defaults, pass, key or rule
 unfoldable pub seen_project : Project → Caller → SeenProject
-seen_project p caller = with_default (without_default p.languages p.branch (visible_versions p caller) (visible_pages p caller) p.redirects) p.defaults
+seen_project p caller = as_seen p.languages p.branch (visible_versions p caller) (visible_pages p caller) p.redirects p.defaults
 
 -- what the caller sees under a host
 abbrev pub seen : World → Option Text → Caller → Option SeenProject
