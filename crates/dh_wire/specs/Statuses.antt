@@ -26,13 +26,15 @@ phrase_of status =
 abbrev pub is_registered_status : ℕ → Bool
 is_registered_status s = s == 200 || (s == 301 || (s == 302 || (s == 400 || (s == 403 || (s == 404 || (s == 405 || (s == 409 || (s == 411 || (s == 431 || s == 503)))))))))
 
--- the status, a space, the phrase and LF
-unfoldable pub fault_text : ℕ → List ℕ
-fault_text status = decimal status ++ codes " " ++ phrase_of status ++ 10 ∷ []
-
--- the reply that says no more than a status, with that text as its body
+-- the reply that says no more than a status, with a body of the status, a space, the phrase and LF
 unfoldable pub fault_reply_of : ℕ → Option Allow → Reply
-fault_reply_of status allow = record { status = status; location = None; allow = allow; media = Some plain_text; body = fault_text status }
+fault_reply_of status allow = record {
+  status = status;
+  location = None;
+  allow = allow;
+  media = Some plain_text;
+  body = decimal status ++ codes " " ++ phrase_of status ++ 10 ∷ [];
+}
 
 -- 404 with the host's text
 abbrev pub host_not_found : Reply

@@ -1,7 +1,8 @@
 //! Statuses, their phrases, and the replies that say no more than a status.
 
-ghost use Rattle.std.specs.Prelude.{◌≡◌, IfOk, IsTrue, string_bytes};
-ghost use Rattle.dh_wire.specs.Statuses.{phrase_of, is_registered_status, fault_text, fault_reply_of};
+ghost use Rattle.std.specs.Prelude.{◌≡◌, [], ◌∷◌, ◌++◌, codes, IfOk, IsTrue, string_bytes};
+ghost use Rattle.std.specs.Fmt.{decimal};
+ghost use Rattle.dh_wire.specs.Statuses.{phrase_of, is_registered_status, fault_reply_of};
 
 use crate::reply::{Allow, Reply};
 use dh_paths::{Bytes, Text};
@@ -43,9 +44,9 @@ pub fn phrase(status: u16) -> &'static str
     }
 }
 
-#[tactic(auto, unfolding(crate::specs::Statuses::fault_text))]
 fn fault_body(alloc: Global, status: u16) -> Result<String, AllocError>
-    ensures { IfOk result (λ text. string_bytes text ≡ fault_text status) }
+    ensures { IfOk result (λ text. string_bytes text
+        ≡ decimal status ++ codes " " ++ phrase_of status ++ 10 ∷ []) }
 {
     let mut text = format!(in alloc; "{status}")?;
     text.push(' ')?;
