@@ -44,10 +44,10 @@ pub fn worlds_are_filed()
 
 /// Where the store is honest behind a command, that was one step of the world of the desk's tables, or was refused and left it.
 pub fn commands_step<S: Alter>()
-    ensures { (old new : Standing S) (command : Command) (result : Result Answer Refusal)
-        → WorldGoesBy S.Store old new (λ before after. IsStep before after command result)
+    ensures { (old new : Standing S) (command : Command) (answer : Result Answer Refusal)
+        → WorldGoesBy S.Store old new (λ before after. IsStep before after command answer)
         → IsHonest S.Store new.tables
-        → IsStep (world S.Store old) (world S.Store new) command result }
+        → IsStep (world S.Store old) (world S.Store new) command answer }
 {}
 
 /// While the disk returns what was written, calls over a desk are a run, once those that were set aside are taken out: also where

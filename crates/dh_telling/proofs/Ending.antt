@@ -29,6 +29,7 @@ use Rattle.dh_lines.specs.declared.lines.ProgramOrder.TheVariants as program
 use Rattle.dh_lists.specs.declared.lists.ListFault.{ListFault}
 use Rattle.dh_lists.specs.declared.lists.ListFault.TheVariants as listed
 use Rattle.dh_lists.specs.declared.lists.RecordFault.{RecordFault}
+use Rattle.dh_redirects.specs.declared.redirect.Redirect.{Redirect}
 use Rattle.dh_script.specs.Running.{RunsScript}
 use Rattle.dh_lines.specs.Lines.{asking, line_in}
 use Rattle.dh_telling.specs.Ends.{Ended, EndsAs, EndsError, EndsHelp, EndsOrdered, EndsList, EndsUnlessCut, EndsVersion, Wanted, Over, Alone, ordered_at, wanted, wanted_of, wanted_unless}
@@ -315,13 +316,13 @@ module _ (host : Text) (bytes : List ℕ) (held now : Option Text) where
   record_ended number fault (Err f) orders it refused says =
       ((Err (listed.BadRecord number fault), orders, inr (is_faulty is_of_output (λ fault. refl) f it.1)), output_fails f it.1)
 
+  act_may : (list : List Redirect) (s : Status) → EndsAs (Over (import_order host list)) 0 None held now s → IsTrue (may_end_single s)
+  act_may list s (inl bad) = absurd (true≢false (sym bad.0))
+  act_may list s (inr good) = good.1
+
   -- what it orders ends as a command may
   ordered_may : (ordered : Result Order ListFault) (s : Status) → OrdersImport host bytes ordered → EndsOrdered ordered held now s → IsTrue (may_end_single s)
-  ordered_may (Ok o) s orders ends = by (subst (λ (done : Order). EndsAs (Over done) 0 None held now s) orders.2 ends)
-    where
-      by : EndsAs (Over (import_order host orders.0)) 0 None held now s → IsTrue (may_end_single s)
-      by (inl bad) = absurd (true≢false (sym bad.0))
-      by (inr good) = good.1
+  ordered_may (Ok o) s orders ends = act_may orders.0 s (subst (λ (done : Order). EndsAs (Over done) 0 None held now s) orders.2 ends)
   ordered_may (Err (listed.BadRecord number fault)) s orders (inl ends) = subst (λ (it : Status). IsTrue (may_end_single it)) (sym ends.0) refl
   ordered_may (Err (listed.BadRecord number fault)) s orders (inr is) = single_faulty s is
   ordered_may (Err listed.Memory) s orders ends = single_faulty s ends.1
