@@ -1,5 +1,5 @@
 -- What calls do to the world of a desk, as far as it is known, one after another.
-use Rattle.std.proofs.Common.{◌≡◌, ◌⊎◌, inl, inr, Bool, true, false, Result, Ok, Err, IfOk, OnOk, refl, sym, subst, ◌∙◌}
+use Rattle.std.proofs.Common.{◌≡◌, inl, inr, Bool, true, false, Result, Ok, Err, IfOk, OnOk, refl, sym, subst, ◌∙◌}
 use Rattle.std.proofs.lemmas.Bool.{cases_Bool}
 use Rattle.sqlite_trees.specs.declared.store.Store.{Ghosts}
 use Rattle.dh_schema.specs.InTurn.{lasts_none, lasts_on}

@@ -1,5 +1,5 @@
 -- Tables of schema 1, and what they become.
-use Rattle.std.specs.Prelude.{◌≡◌, ◌⊎◌, ◌∷◌, codes, Result}
+use Rattle.std.specs.Prelude.{◌⊎◌, ◌∷◌, codes, Result}
 use Rattle.std.specs.List.{AllByRecursion}
 use Rattle.sqlite_schema.specs.declared.schema.Schema.{Schema}
 use Rattle.sqlite_trees.specs.declared.store.Store.{Ghosts}

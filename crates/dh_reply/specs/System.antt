@@ -1,5 +1,5 @@
 -- What a project answers at `/robots.txt` and below `/_/`: the addresses that crawlers are to leave out, and its versions as JSON.
-use Rattle.std.specs.Prelude.{ℕ, Bool, false, not, if◌then◌else◌, Option, Some, None, List, [], ◌∷◌, ◌++◌, map, filter, flat_map, codes}
+use Rattle.std.specs.Prelude.{ℕ, false, not, Option, List, [], ◌∷◌, ◌++◌, map, filter, flat_map, codes}
 use Rattle.std.specs.Option.{option_map_or}
 use Rattle.serde_json.specs.Data.{Data, null, string, array, object, no_members, member}
 use Rattle.serde_json.specs.View.{items_of}

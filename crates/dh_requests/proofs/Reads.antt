@@ -1,5 +1,5 @@
 -- A read request is one by its head.
-use Rattle.std.proofs.Common.{◌≡◌, ℕ, ◌+◌, ◌≤◌, min, Bool, true, false, cond, leb, ◌||◌, true≢false, List, [], ◌++◌, length, length-append, length-take, take, drop, Option, Some, None, Result, Ok, Err, ok_or, unwrap_or, codes, refl, arith, append-nil, ap, sym, subst, ◌∙◌}
+use Rattle.std.proofs.Common.{◌≡◌, ℕ, ◌+◌, ◌≤◌, min, Bool, true, false, cond, leb, ◌||◌, true≢false, List, ◌++◌, length, length-append, length-take, take, drop, Option, Some, None, Result, Ok, Err, ok_or, unwrap_or, codes, refl, arith, append-nil, ap, sym, subst, ◌∙◌}
 use Rattle.std.specs.Option.{option_map_or}
 use Rattle.std.specs.Str.{bytes_eq}
 use Rattle.std.proofs.lemmas.Bool.Decides.{nat_tests}
@@ -16,7 +16,7 @@ use Rattle.dh_wire.specs.declared.reply.Read.{Read as ReadOf}
 use Rattle.dh_world.specs.declared.command.Command.{Command as CommandOf}
 use Rattle.dh_world.specs.declared.command.CommandChange.{CommandChange}
 use Rattle.dh_requests.specs.declared.asked.Asked.{Asked}
-use Rattle.dh_requests.specs.declared.asked.Asked.TheVariants.{Whole, Command}
+use Rattle.dh_requests.specs.declared.asked.Asked.TheVariants.{Whole}
 use Rattle.dh_requests.specs.declared.asked.Posted.{Posted}
 use Rattle.dh_requests.specs.declared.cause.Cause.{Cause}
 use Rattle.dh_requests.specs.declared.cause.Cause.TheVariants.{Form, Method, ShortBody}

@@ -32,7 +32,7 @@ use Rattle.dh_lists.specs.declared.lists.RecordFault.{RecordFault}
 use Rattle.dh_redirects.specs.declared.redirect.Redirect.{Redirect}
 use Rattle.dh_script.specs.Running.{RunsScript}
 use Rattle.dh_lines.specs.Lines.{asking, line_in}
-use Rattle.dh_telling.specs.Ends.{Ended, EndsAs, EndsError, EndsHelp, EndsOrdered, EndsList, EndsUnlessCut, EndsVersion, Wanted, Over, Alone, ordered_at, wanted, wanted_of, wanted_unless}
+use Rattle.dh_telling.specs.Ends.{Ended, EndsAs, EndsError, EndsHelp, EndsOrdered, EndsList, EndsUnlessCut, EndsVersion, Over, Alone, wanted, wanted_of, wanted_unless}
 use Rattle.dh_telling.specs.Ends.{is_failure_status, status_after, may_end_order, may_end_single, asks_help, asks_version, line_asked, line_run}
 use Rattle.dh_telling.specs.Failing.{may_fail, IsDoneOr, is_of_output, is_of_init, is_of_list, is_of_script, is_of_single, is_of_command, is_of_opened, is_of_order, is_of_sent, may_be_sent, is_of_checked, is_of_file, is_of_memory}
 use Rattle.dh_telling.specs.Failures.{failure_of}
