@@ -9,5 +9,5 @@ pub mod Bodies
 pub mod Decided
 pub mod Whole
 pub mod Requests
-pub mod Reads
+pub mod ReadHeads
 pub mod Hearing

@@ -1,4 +1,4 @@
-use Rattle.dh_requests.proofs.Reads.{by_head, from_request}
+use Rattle.dh_requests.proofs.ReadHeads.{by_head, from_request}
 use Rattle.dh_requests.proofs.laws.read_requests.Goals as goal
 
 pub returns : goal.returns
